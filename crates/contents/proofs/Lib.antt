@@ -1,0 +1,14 @@
+pub mod Bounds
+pub mod Vacant
+pub mod Strings
+pub mod Totals
+pub mod Accepted
+pub mod Sounds
+pub mod Listed
+pub mod Places
+pub mod Blocks
+pub mod Lengths
+pub mod Gridding
+pub mod Pooling
+pub mod Clearing
+pub mod Freed

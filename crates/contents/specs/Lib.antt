@@ -1,0 +1,5 @@
+pub mod Contents
+pub mod Answers
+pub mod Layout
+pub mod Grids
+pub mod Pools
