@@ -32,7 +32,7 @@ appendAt=append_at appendNext=append_next appendWith=append_with append_at=appen
 arrival-ok=arrival_ok asked-at=asked_at asked-held=asked_held asked-identity=asked_identity asked-source=asked_source asked-there=asked_there
 asked-to=asked_to at-collects=at_collects at-keeps=at_keeps at-model=at_model at-polls=at_polls at-receiver=at_receiver at-receiver-of=at_receiver_of
 badClock=bad_clock badCount=bad_count badIdentity=bad_identity badList=bad_list badPlace=bad_place before-low=before_low before-none=before_none
-begin-keeps=begin_keeps begin-sourced=begin_sourced beginAt=begin_at bit-and=bit_and bit-by-bit=bit_by_bit bit-or=bit_or bit-other=bit_other
+begin-keeps=begin_keeps begin-sourced=begin_sourced beginAt=begin_at bit-and=bit_and_lem bit-by-bit=bit_by_bit bit-or=bit_or_lem bit-other=bit_other
 bit-self=bit_self bit-turned=bit_turned block-other=block_other broken-at=broken_at broken-front=broken_front broken-rest=broken_rest
 broken-stop=broken_stop brokenIn=broken_in by-case=by_case by-receiver=by_receiver by-sender=by_sender by-test=by_test byEnd=by_end byStore=by_store
 byWire=by_wire cases-place=cases_place causeOf=cause_of causes-err=causes_err causes-ok=causes_ok cell-within=cell_within changed-keeps=changed_keeps
@@ -41,8 +41,8 @@ cleared-all=cleared_all cleared-grows=cleared_grows cleared-keeps=cleared_keeps 
 cleared-there=cleared_there clears-cases=clears_cases closed-clears=closed_clears closed-test=closed_test closing-pair=closing_pair
 collect-keeps=collect_keeps collect-told=collect_told collectAt=collect_at collectInto=collect_into collectRow=collect_row collectWith=collect_with
 collected-keeps=collected_keeps complete-is-there=complete_is_there complete-on=complete_on complete-pending=complete_pending
-complete-row=complete_row complete-stays=complete_stays complete-strings=complete_strings completeOr=complete_or cond-false=cond_false
-cond-times=cond_times cond-true=cond_true consIf=cons_if copied-out=copied_out count-is=count_is counted-undrafted=counted_undrafted
+complete-row=complete_row complete-stays=complete_stays complete-strings=complete_strings completeOr=complete_or 
+cond-times=cond_times consIf=cons_if copied-out=copied_out count-is=count_is counted-undrafted=counted_undrafted
 countedIn=counted_in countedRow=counted_row coveredAfter=covered_after damage-shows=damage_shows damaged-truly=damaged_truly data-1=data_1
 data-2=data_2 data-3=data_3 data-at=data_at_lem data-at-new=data_at_new_lem data-at-row=data_at_row_lem data-back=data_back data-fit=data_fit
 data-fits=data_fits data-inside=data_inside data-keeps=data_keeps data-named=data_named data-new-named=data_new_named data-piece=data_piece
@@ -99,7 +99,7 @@ keep-named=keep_named keep-new=keep_new_lem keepAt=keep_at keepNew=keep_new keep
 keeps-set=keeps_set keeps-whole=keeps_whole kept-keeps=kept_keeps kept-where=kept_where label-grows=label_grows label-own=label_own
 labelAhead=label_ahead labelFor=label_for lacking-count=lacking_count lacking-of=lacking_of lacks-two=lacks_two lapsed-named=lapsed_named
 lapsedAt=lapsed_at last-address=last_address last-below=last_below lastClock=last_clock lastIdentity=last_identity leastWidth=least_width
-left-out-ok=left_out_ok left-out-was-held=left_out_was_held length-consIf=length-cons_if length-take-le=length-take_le length-words=length_words
+left-out-ok=left_out_ok left-out-was-held=left_out_was_held length-consIf=length-cons_if length-words=length_words
 length-wordsOf=length_words_of lengthField=length_field less-low=less_low limit-are=limit_are limit-high=limit_high limit-low=limit_low
 limitFits=limit_fits list-clears=list_clears list-empty=list_empty list-short=list_short listFault=list_fault listFor=list_for listed-if=listed_if
 listed-is=listed_is listsUs=lists_us longestList=longest_list longestWait=longest_wait looseRow=loose_row looseTime=loose_time low-over=low_over

@@ -50,11 +50,11 @@ bit_by_bit f g shr low tl tr bl br w v b =
     ap (λ (x : ℕ). eqb x 1) (ap (λ (x : ℕ). x % 2) (shr w v b) ∙ low (w / 2 ^ b) (v / 2 ^ b) 1)
     ∙ two_digits f g tl tr bl br (w / 2 ^ b % 2) (v / 2 ^ b % 2) (mod-lt (w / 2 ^ b) (lit< tt)) (mod-lt (v / 2 ^ b) (lit< tt))
 
-pub bit_and : (w v b : ℕ) → bit_of (bit_and w v) b ≡ (bit_of w b && bit_of v b)
-bit_and = bit_by_bit bit_and ◌&&◌ and_shr and_mod refl refl refl refl
+pub bit_and_lem : (w v b : ℕ) → bit_of (bit_and w v) b ≡ (bit_of w b && bit_of v b)
+bit_and_lem = bit_by_bit bit_and ◌&&◌ and_shr and_mod refl refl refl refl
 
-pub bit_or : (w v b : ℕ) → bit_of (bit_or w v) b ≡ (bit_of w b || bit_of v b)
-bit_or = bit_by_bit bit_or ◌||◌ or_shr or_mod refl refl refl refl
+pub bit_or_lem : (w v b : ℕ) → bit_of (bit_or w v) b ≡ (bit_of w b || bit_of v b)
+bit_or_lem = bit_by_bit bit_or ◌||◌ or_shr or_mod refl refl refl refl
 
 -- a word turned over at bit a
 pub bit_turned : (w a : ℕ) → bit_of (bit_xor w (2 ^ a)) a ≡ not (bit_of w a)

@@ -1,6 +1,6 @@
 -- What follows from a test: counts, the greatest, the lowest and the list of those that pass.
 use Rattle.std.proofs.Common.{◌≡◌, ℕ, zero, suc, ◌+◌, ◌-◌, ◌<◌, ◌≤◌, min, Bool, true, false, cond, not, leb, ◌≢◌, List, [], ◌∷◌, length, Some, None, Option, sym, refl, ap, ◌∙◌, subst, ap₂, inl, inr, add-zero, zero-add, add-one, arith}
-use Rattle.std.proofs.lemmas.Bool.{both_ways, cases_Bool, cases_eq, cases_lt, cond_false, cond_true, le-leb, lt-leb}
+use Rattle.std.proofs.lemmas.Bool.{both_ways, cases_Bool, cases_eq, cases_lt, cond-false, cond-true, le-leb, lt-leb}
 use Rattle.bitmap.specs.Passing.{Next, Top, cons_if, greatest, lowest_from, rising_from, tally}
 
 -- ---- how many pass
@@ -79,10 +79,10 @@ unfolding greatest
 greatest_of p zero t l m a = omega arith
 greatest_of p (suc n) t l m a =
     elim (cases_eq t (suc n)) [
-      | inl e ↦ e ∙ sym (cond_true (p (suc n)) (suc n) (greatest p n) (subst (λ (x : ℕ). p x ≡ true) e (m (omega arith))))
+      | inl e ↦ e ∙ sym (cond-true (p (suc n)) (suc n) (greatest p n) (subst (λ (x : ℕ). p x ≡ true) e (m (omega arith))))
       | inr ne ↦
           greatest_of p n t (omega arith) m (λ k g h. a k g (omega arith))
-          ∙ sym (cond_false (p (suc n)) (suc n) (greatest p n) (a (suc n) (omega arith) (omega arith)))
+          ∙ sym (cond-false (p (suc n)) (suc n) (greatest p n) (a (suc n) (omega arith) (omega arith)))
     ]
 
 abbrev pub Great : (ℕ → Bool) → ℕ → ℕ → Type 0
@@ -95,10 +95,10 @@ greatest_is p (suc n) =
     let ih = greatest_is p n in
     elim (cases_Bool (p (suc n))) [
       | inl e ↦
-          subst (Great p (suc n)) (sym (cond_true (p (suc n)) (suc n) (greatest p n) e))
+          subst (Great p (suc n)) (sym (cond-true (p (suc n)) (suc n) (greatest p n) e))
           (omega arith, (λ _. e), λ k a b. absurd (let f : ⊥ = omega arith in f))
       | inr e ↦
-          subst (Great p (suc n)) (sym (cond_false (p (suc n)) (suc n) (greatest p n) e))
+          subst (Great p (suc n)) (sym (cond-false (p (suc n)) (suc n) (greatest p n) e))
           (omega (arith, ih.0), ih.1, λ k a b. elim (cases_eq k (suc n)) [ inl z ↦ rw z e | inr ne ↦ ih.2 k a (omega arith) ])
     ]
 

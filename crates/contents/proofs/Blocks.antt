@@ -3,7 +3,7 @@ use Rattle.std.proofs.Common.{◌≡◌, ℕ, suc, ◌+◌, ◌*◌, ◌<◌, �
 use lib.Seq.{paste}
 use Rattle.std.proofs.lemmas.Nat.{mul-le}
 use Rattle.std.proofs.lemmas.List.Edits.{length-paste}
-use Rattle.std.proofs.lemmas.List.{get_or-drop, get_or-set_other, get_or-set_same, get_or-take, length-drop, length-take, length-take_le, places, same_lists}
+use Rattle.std.proofs.lemmas.List.{get_or-drop, get_or-set_other, get_or-set_same, get_or-take, length-drop, length-take, length-take-le, places, same_lists}
 use Rattle.std.proofs.lemmas.Bool.{cases_lt}
 use Rattle.contents.specs.Contents.{in_bounds, string_at, with_string}
 use Rattle.contents.specs.Layout.{Short, place_of, store_by, string_by}
@@ -42,7 +42,7 @@ module _ (w limit cells : ℕ) (bytes lens : List ℕ) (cell : ℕ → ℕ)
   string_length p =
       ⊎_elim
       (λ h. let m = cell_room w cells (cell p) (get_or lens p 0) (celled p h) (short p) in
-      length-take_le (get_or lens p 0) (drop (cell p * w) bytes) (simp length-drop (omega arith)))
+      length-take-le (get_or lens p 0) (drop (cell p * w) bytes) (simp length-drop (omega arith)))
       (λ h. let z : get_or lens p 0 ≡ 0 = omega arith in rw z refl)
       (cases_lt 0 (get_or lens p 0))
 

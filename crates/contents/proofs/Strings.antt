@@ -1,18 +1,18 @@
 -- The string at a place, after a put and after a free.
 use Rattle.std.proofs.Common.{◌≡◌, ℕ, ◌-◌, ◌<◌, true, false, ◌≢◌, ◌⊎◌, List, [], length, get_or, set, sym, ap, ◌∙◌, inl, inr, ⊎_elim, arith}
 use Rattle.std.proofs.lemmas.List.{get_or_past, get_or-set_other, get_or-set_same, nil_from_length, set-get_or, set_past}
-use Rattle.std.proofs.lemmas.Bool.{cases_Bool, cases_eq, cases_lt, cond_false, cond_true}
+use Rattle.std.proofs.lemmas.Bool.{cases_Bool, cases_eq, cases_lt, cond-false, cond-true}
 use Rattle.contents.specs.Contents.{Contents, Sound, empty_store, in_bounds, row_at, string_at, vacant, with_row, with_string}
 use Rattle.contents.proofs.Bounds.{in_bounds_are}
 use Rattle.contents.proofs.Vacant.{get_d_vacant, get_d_vacants}
 
 pub string_in : (s : Contents) (r n : ℕ) → in_bounds r n ≡ true → string_at s r n ≡ get_or (row_at s r) (n - 1) []
 unfolding string_at
-string_in s r n h = cond_true (in_bounds r n) (get_or (row_at s r) (n - 1) []) [] h
+string_in s r n h = cond-true (in_bounds r n) (get_or (row_at s r) (n - 1) []) [] h
 
 pub string_out : (s : Contents) (r n : ℕ) → in_bounds r n ≡ false → string_at s r n ≡ []
 unfolding string_at
-string_out s r n h = cond_false (in_bounds r n) (get_or (row_at s r) (n - 1) []) [] h
+string_out s r n h = cond-false (in_bounds r n) (get_or (row_at s r) (n - 1) []) [] h
 
 -- what is held is in bounds
 pub held_in : (s : Contents) (r n : ℕ) → 0 < length (string_at s r n) → in_bounds r n ≡ true

@@ -1,5 +1,7 @@
 // The stores under load, for measuring them from outside. In a round the octets are put at every number of a row, each is
 // got back, and the row is freed.
+#![tactic(auto)]
+
 ghost use Rattle.std.specs.Prelude.{◌*◌, ◌≤◌};
 ghost use Rattle.protocol.specs.Limits.{most_numbers};
 

@@ -1,4 +1,6 @@
 // Octets written as hexadecimal digits.
+#![tactic(auto)]
+
 ghost use Rattle.std.specs.Prelude.{◌≡◌, ◌<◌, IfSome, IfOk, vec_items};
 ghost use Rattle.std.specs.Option.{option_map};
 ghost use Rattle.hexadecimal.specs.Digits.{digit_of, octet_of, octets_of};

@@ -1,6 +1,6 @@
 -- What comes from the channel says what was so, or is refused.
 use Rattle.std.proofs.Common.{◌≡◌, ℕ, zero, suc, ◌+◌, ◌<◌, ◌≤◌, Bool, true, false, cond, not, ltb, ◌⊎◌, List, [], ◌∷◌, map, length, get_or, Some, None, Ok, Err, Result, sym, refl, ap, ◌∙◌, subst, inl, inr, ⊎_elim, arith}
-use Rattle.std.proofs.lemmas.Bool.{cond_false, le-ltb, not_from_true}
+use Rattle.std.proofs.lemmas.Bool.{cond-false, le-ltb, not_from_true}
 use Rattle.protocol.specs.Causes.{Cause}
 use Rattle.protocol.specs.Limits.{is_number, longest, shortest}
 use Rattle.pdu.specs.declared.Accepts.{Accepts}
@@ -29,8 +29,8 @@ data_fit : (h : History) (x : Submission) (n : ℕ) → SubmittedIn h x → 1 �
 data_fit h x n s low high =
     let good = fragment_good h x n s low high in
     let is-number : is_number n ≡ true = number n (omega arith) (omega (arith, s.few)) in
-    cond_false (ltb longest (shortest + length (fragment_at x.fragments n))) _ _ (le-ltb longest _ (omega (arith, good.short)))
-    ∙ cond_false (not (is_number n)) _ _ (not_from_true (is_number n) is-number)
+    cond-false (ltb longest (shortest + length (fragment_at x.fragments n))) _ _ (le-ltb longest _ (omega (arith, good.short)))
+    ∙ cond-false (not (is_number n)) _ _ (not_from_true (is_number n) is-number)
 
 -- the destinations as they are placed in a PDU
 placed-named : (place : ℕ) (pairs : List (ℕ × ℕ)) → map (λ d. d.destination) (placed place pairs) ≡ map (λ d. d.0) pairs

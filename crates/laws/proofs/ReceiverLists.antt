@@ -3,7 +3,7 @@ use Rattle.std.proofs.Common.{◌≡◌, ℕ, zero, suc, ◌+◌, ◌*◌, ◌<�
 use Rattle.std.specs.List.{AllByRecursion as All}
 use Rattle.std.proofs.ByRecursion.{All-append, All-take}
 use Rattle.std.proofs.lemmas.List.{length-append, length-take}
-use Rattle.std.proofs.lemmas.Bool.{and_parts, cases_eq, cond_both, cond_false, cond_true, false≢true, le-ltb, lt-ltb, ltb-false, ltb-true, or_cases}
+use Rattle.std.proofs.lemmas.Bool.{and_parts, cases_eq, cond_both, cond-false, cond-true, false≢true, le-ltb, lt-ltb, ltb-false, ltb-true, or_cases}
 use Rattle.protocol.specs.Limits.{is_number, longest, most_listed, most_numbers}
 use Rattle.bitmap.specs.Passing.{cons_if, rising_from}
 use Rattle.pdu.specs.Read.{numbers_broken}
@@ -19,14 +19,14 @@ use Rattle.laws.proofs.Facts.{Clears}
 -- a rising pair covers what lies between
 rising-pair : (x y k : ℕ) → x < y → covers x y k ≡ true → (x < k) × (k < y)
 rising-pair x y k l t =
-    let p = and_parts (ltb x k) (ltb k y) (sym (cond_true (ltb x y) _ _ (lt-ltb x y l)) ∙ t) in
+    let p = and_parts (ltb x k) (ltb k y) (sym (cond-true (ltb x y) _ _ (lt-ltb x y l)) ∙ t) in
     (ltb-true x k p.0, ltb-true k y p.1)
 
 -- one that does not rise covers what lies outside
 closing_pair : (x y k : ℕ) → y ≤ x → covers x y k ≡ true → (x < k) ⊎ (k < y)
 closing_pair x y k l t =
     ⊎_elim (λ a. inl (ltb-true x k a)) (λ b. inr (ltb-true k y b))
-    (or_cases (ltb x k) (ltb k y) (sym (cond_false (ltb x y) _ _ (le-ltb x y l)) ∙ t))
+    (or_cases (ltb x k) (ltb k y) (sym (cond-false (ltb x y) _ _ (le-ltb x y l)) ∙ t))
 
 -- none of the numbers between two passes
 abbrev NoneBetween : (ℕ → Bool) → ℕ → ℕ → Type 0
@@ -165,11 +165,11 @@ rising-numbers p a (suc m) low high =
 
 numbers_unbroken : (place : ℕ) (ns : List ℕ) → All (λ n. is_number n ≡ true) ns → numbers_broken place ns ≡ None
 numbers_unbroken place [] a = refl
-numbers_unbroken place (n ∷ ns) a = cond_true (is_number n) (numbers_broken (place + 2) ns) (Some place) a.0 ∙ numbers_unbroken (place + 2) ns a.1
+numbers_unbroken place (n ∷ ns) a = cond-true (is_number n) (numbers_broken (place + 2) ns) (Some place) a.0 ∙ numbers_unbroken (place + 2) ns a.1
 
 fits-none : (ns : List ℕ) → length ns ≤ most_listed + 1 → All (λ n. is_number n ≡ true) ns → ack_unfit ns ≡ None
 fits-none ns l a =
-    cond_false (ltb longest (ack_head + entry_head + 2 * length ns)) (Some 0) (numbers_broken (ack_head + entry_head) ns)
+    cond-false (ltb longest (ack_head + entry_head + 2 * length ns)) (Some 0) (numbers_broken (ack_head + entry_head) ns)
     (le-ltb longest (ack_head + entry_head + 2 * length ns) (omega arith))
     ∙ numbers_unbroken (ack_head + entry_head) ns a
 

@@ -1,7 +1,7 @@
 -- A sender keeps its invariant when it writes a PDU, and what it writes says what was submitted.
 use Rattle.std.proofs.Common.{◌≡◌, ℕ, suc, ◌+◌, ◌*◌, ◌^◌, ◌<◌, ◌≤◌, Bool, true, false, cond, not, ◌&&◌, ◌||◌, eqb, ltb, leb, ◌⊎◌, List, [], ◌∷◌, ◌++◌, map, length, get_or, Some, None, Ok, Err, Option, Result, sym, refl, ap, ◌∙◌, subst, inl, inr, ⊎_elim, arith}
 use Rattle.std.proofs.lemmas.List.{length-map}
-use Rattle.std.proofs.lemmas.Bool.{and_parts, cond_both, cond_false, eqb-false, false≢true, le-ltb, lt-leb, not_from_true, not-true, or_cases, or_left, or_right}
+use Rattle.std.proofs.lemmas.Bool.{and_parts, cond_both, cond-false, eqb-false, false≢true, le-ltb, lt-leb, not_from_true, not-true, or_cases, or_left, or_right}
 use Rattle.protocol.specs.Causes.{Cause}
 use Rattle.protocol.specs.Limits.{is_number, longest, most_numbers, roster_count, row_count}
 use Rattle.pdu.specs.Read.{unrisen, unrisen_after}
@@ -37,7 +37,7 @@ use Rattle.laws.proofs.SenderStands.{DestinationOk, Keeps, Low, MessageOk, RowOk
 
 risen_after : (before place : ℕ) (ds : List (ℕ × ℕ)) → Every (λ y. before < y) (map (λ d. d.0) ds) → Rises (map (λ d. d.0) ds) → unrisen_after before (placed place ds) ≡ None
 risen_after before place [] e r = refl
-risen_after before place (d ∷ ds) e r = cond_false (leb d.0 before) _ _ (lt-leb d.0 before e.0) ∙ risen_after d.0 (place + destination_size) ds r.0 r.1
+risen_after before place (d ∷ ds) e r = cond-false (leb d.0 before) _ _ (lt-leb d.0 before e.0) ∙ risen_after d.0 (place + destination_size) ds r.0 r.1
 
 risen : (place : ℕ) (ds : List (ℕ × ℕ)) → Rises (map (λ d. d.0) ds) → unrisen (placed place ds) ≡ None
 risen place [] r = refl
@@ -77,8 +77,8 @@ address-sent h source m k = sent-address (record {
   pairs = map pair_of (open_of m);
   fit = pairs_fit h source m.identity m.total (open_of m) (every_those (DestinationOk h source m.identity m.total) is_open (destinations_of m) k.each);
   good =
-      cond_false (ltb longest (address_head + destination_size * length (map pair_of (open_of m)))) _ _ (le-ltb longest _ (omega (arith, length-map (open_of m) pair_of, few)))
-      ∙ cond_false (not (is_number (length x.fragments))) _ _ (not_from_true _ (number (length x.fragments) (omega (arith, k.there.some)) k.there.few))
+      cond-false (ltb longest (address_head + destination_size * length (map pair_of (open_of m)))) _ _ (le-ltb longest _ (omega (arith, length-map (open_of m) pair_of, few)))
+      ∙ cond-false (not (is_number (length x.fragments))) _ _ (not_from_true _ (number (length x.fragments) (omega (arith, k.there.some)) k.there.few))
       ∙ risen address_head (map pair_of (open_of m)) (subst Rises (sym names) (rises_those (λ d. d.destination) is_open (destinations_of m) (subst Rises (sym k.destinations_are) k.there.destinations_rise)));
   ours = λ n l. subst (λ ns. listed ns n ≡ true) k.destinations_are (those-listed is_open (destinations_of m) n (subst (λ ns. listed ns n ≡ true) names l));
   is = sym (λ i. address_octets (k.priority_is i) (k.total_is i) (k.source_is i) (k.identity_is i) (k.expiry_is i) (map pair_of (open_of m)));

@@ -1,7 +1,7 @@
 -- A sender keeps its invariant when it appends to a draft and submits it: the calls of which the history keeps what was sent.
 use Rattle.std.proofs.Common.{◌≡◌, ℕ, zero, suc, ◌+◌, ◌-◌, ◌^◌, ◌<◌, ◌≤◌, min, Bool, true, false, cond, not, ◌&&◌, ◌||◌, eqb, ltb, leb, ◌⊎◌, List, [], ◌∷◌, ◌++◌, map, length, get_or, take, set, replicate, Some, None, Ok, Err, Option, Result, sym, refl, ap, ◌∙◌, subst, inl, inr, ⊎_elim, arith}
 use Rattle.std.proofs.lemmas.List.{get_or_append_left, get_or_push, get_or-set_other, get_or-set_same, length-map, length_push, map-id, set-set, take_all, take_at}
-use Rattle.std.proofs.lemmas.Bool.{and_parts, and_right, cases_eq, cond_both, cond_false, eqb-false, eqb-true, eq-eqb, false≢true, le-leb, leb-false, leb-true, ltb-false, ltb-true, ne_eqb, not-false, or_parts}
+use Rattle.std.proofs.lemmas.Bool.{and_parts, and_right, cases_eq, cond_both, cond-false, eqb-false, eqb-true, eq-eqb, false≢true, le-leb, leb-false, leb-true, ltb-false, ltb-true, ne_eqb, not-false, or_parts}
 use Rattle.protocol.specs.Causes.{Cause}
 use Rattle.protocol.specs.Limits.{is_number, last_identity, most_numbers, most_width, roster_count, row_count}
 use Rattle.pdu.specs.Octets.{Octets}
@@ -66,7 +66,7 @@ aside_grows h e s i identity k l d below un =
 append_elsewhere : (source identity n : ℕ) (octets : List ℕ) → (n ≡ identity → ⊥) → appended_by source n (by_sender source (SenderCall.append source identity octets) done) ≡ []
 append_elsewhere source identity n octets ne =
     cond_both (eqb source source) _ _ (λ (xs : List (List ℕ)). xs ≡ [])
-    (λ t. cond_false (eqb source source && eqb identity n) _ _ (and_right (eqb source source) (eqb identity n) (ne_eqb identity n (λ e. ne (sym e)))))
+    (λ t. cond-false (eqb source source && eqb identity n) _ _ (and_right (eqb source source) (eqb identity n) (ne_eqb identity n (λ e. ne (sym e)))))
     (λ f. refl)
 
 append_here : (source identity : ℕ) (octets : List ℕ) → appended_by source identity (by_sender source (SenderCall.append source identity octets) done) ≡ octets ∷ []

@@ -1,7 +1,7 @@
 -- The strings of a store after the changes that ends make.
 use Rattle.std.proofs.Common.{◌≡◌, ℕ, zero, suc, ◌-◌, ◌<◌, ◌≤◌, Bool, true, false, cond, not, ◌||◌, ◌≢◌, ◌⊎◌, List, [], ◌∷◌, length, get_or, set, sym, refl, ap, ◌∙◌, subst, inl, inr, ⊎_elim, arith}
 use Rattle.std.proofs.lemmas.List.{get_or-set_other, get_or-set_same, length-set}
-use Rattle.std.proofs.lemmas.Bool.{cases_Bool, cases_eq, cond_false, cond_true}
+use Rattle.std.proofs.lemmas.Bool.{cases_Bool, cases_eq, cond-false, cond-true}
 use Rattle.protocol.specs.Limits.{most_numbers, most_width, row_count}
 use Rattle.contents.specs.Contents.{Contents, Sound, in_bounds, row_at, string_at, vacant, with_row, with_string}
 use Rattle.contents.proofs.Bounds.{in_bounds_are}
@@ -74,7 +74,7 @@ freed-kept : {X : Type 0} (p : X → Bool) (xs : List X) (rows : List (List (Lis
 unfolding freed_rows
 freed-kept p [] rows r d l f = refl
 freed-kept p (x ∷ xs) [] r d l f = refl
-freed-kept p (x ∷ xs) (row ∷ rows) zero d l f = cond_false (p x) vacant row f
+freed-kept p (x ∷ xs) (row ∷ rows) zero d l f = cond-false (p x) vacant row f
 freed-kept p (x ∷ xs) (row ∷ rows) (suc r) d l f = freed-kept p xs rows r d (omega arith) f
 
 -- a row whose element does not pass keeps its strings

@@ -1,7 +1,7 @@
 -- What holds of all ends and the channel after every run, and how one call keeps it.
 use Rattle.std.proofs.Common.{◌≡◌, ℕ, zero, suc, ◌<◌, ◌≤◌, Bool, true, false, cond, ◌&&◌, eqb, ◌⊎◌, List, [], ◌∷◌, ◌++◌, map, length, get_or, set, Ok, Err, Result, sym, refl, ap, ◌∙◌, subst, inl, inr, ⊎_elim, arith}
 use Rattle.std.proofs.lemmas.List.{get_or-map, get_or-set_other, get_or-set_same, length-map, length-set}
-use Rattle.std.proofs.lemmas.Bool.{and_right, cases_eq, cond_both, cond_false, ne_eqb}
+use Rattle.std.proofs.lemmas.Bool.{and_right, cases_eq, cond_both, cond-false, ne_eqb}
 use Rattle.pdu.specs.declared.Accepts.TheVariants.{Sender, Receiver}
 use Rattle.rules.specs.Refusals.{Refusal}
 use Rattle.rules.specs.ReceiverPoll.{receiver_poll}
@@ -73,7 +73,7 @@ plain_quiet source s c a none other = (
 -- an event at another sender
 foreign_quiet : (source s : ℕ) (c : SenderCall) (a : Answer) → (s ≡ source → ⊥) → Quiet source (by_sender s c a)
 foreign_quiet source s c a ne = (
-  λ identity. cond_false (is_done a && eqb s source) _ _ (and_right (is_done a) (eqb s source) (ne_eqb s source ne)),
+  λ identity. cond-false (is_done a && eqb s source) _ _ (and_right (is_done a) (eqb s source) (ne_eqb s source ne)),
   λ identity p x ds e. ne (cc),
 )
 

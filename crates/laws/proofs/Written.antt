@@ -1,7 +1,7 @@
 -- What is written is octets, and is framed, so that one changed bit shows.
 use Rattle.std.proofs.Common.{◌≡◌, ℕ, zero, suc, ◌+◌, ◌*◌, ◌/◌, ◌%◌, ◌^◌, ◌<◌, ◌≤◌, Bool, true, false, cond, not, ◌||◌, eqb, ltb, ◌⊎◌, List, [], ◌∷◌, ◌++◌, length, get_or, set, Some, None, Ok, Err, Option, Result, sym, refl, ap, ◌∙◌, subst, inl, inr, ⊎_elim, arith}
 use Rattle.std.specs.List.{flat_map}
-use Rattle.std.proofs.lemmas.Bool.{cases_Bool, cond_true, not_from_false}
+use Rattle.std.proofs.lemmas.Bool.{cases_Bool, cond-true, not_from_false}
 use Rattle.protocol.specs.Causes.{Cause, cause}
 use Rattle.protocol.specs.Limits.{is_number, longest, most_numbers, shortest}
 use Rattle.pdu.specs.declared.Accepts.{Accepts}
@@ -142,7 +142,7 @@ refuses_later false e r h = h
 pub untaken : (end : Accepts) (xs : List ℕ) → takes end (type_field xs) ≡ false → (e : Cause) × (read_of end xs ≡ Err e)
 untaken end xs t =
     let here : Refuses (cond (not (takes end (type_field xs))) (Err (cause 4 (type_field xs ∷ []))) (Ok (type_field xs))) =
-    record { why = cause 4 (type_field xs ∷ []); is = cond_true (not (takes end (type_field xs))) _ _ (not_from_false (takes end (type_field xs)) t) } in
+    record { why = cause 4 (type_field xs ∷ []); is = cond-true (not (takes end (type_field xs))) _ _ (not_from_false (takes end (type_field xs)) t) } in
     let head : Refuses (head_of end xs) =
     refuses_later (ltb (length xs) shortest || ltb longest (length xs)) (cause 1 (length xs ∷ [])) _
     (refuses_later (not (eqb (length_field xs) (length xs))) (cause 2 (length_field xs ∷ length xs ∷ [])) _

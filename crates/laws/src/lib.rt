@@ -1,4 +1,6 @@
 // Runs of several ends over a channel, and the laws that hold after every run. The statements stand in specs/.
+#![tactic(auto)]
+
 ghost use Rattle.laws.specs.Example.{Example};
 ghost use Rattle.laws.specs.Laws.{EveryCallGoesOn, EveryRunIsLawful};
 

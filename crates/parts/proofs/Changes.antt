@@ -1,6 +1,6 @@
 -- One number put into a sound set, or taken out of it.
 use Rattle.std.proofs.Common.{◌≡◌, ℕ, ◌+◌, ◌-◌, ◌<◌, ◌≤◌, max, true, false, cond, not, ◌&&◌, ◌||◌, eqb, ◌≢◌, List, length, sym, refl, ap, ◌∙◌, inl, inr, arith}
-use Rattle.std.proofs.lemmas.Bool.{and_right, both_ways, cases_eq, cases_lt, cond_false, cond_true, eq-eqb, ne_eqb, or_right}
+use Rattle.std.proofs.lemmas.Bool.{and_right, both_ways, cases_eq, cases_lt, cond-false, cond-true, eq-eqb, ne_eqb, or_right}
 use Rattle.bitmap.specs.Passing.{greatest}
 use Rattle.bitmap.specs.Words.{Fitted, holds}
 use Rattle.bitmap.proofs.Counts.{greatest_is, greatest_of, greatest_same, greatest_skip, tally_turn}
@@ -27,10 +27,10 @@ abbrev pub Turned : Numbers → ℕ → List ℕ → Type 0
 Turned s n ws = (m : ℕ) → holds ws m ≡ cond (eqb m n) (not (holds s.words m)) (holds s.words m)
 
 turned_other : (s : Numbers) (n : ℕ) (ws : List ℕ) → Turned s n ws → (k : ℕ) → 0 < k → k ≤ most_numbers → k ≢ n → holds ws k ≡ has s k
-turned_other s n ws t k a b ne = t k ∙ cond_false (eqb k n) (not (holds s.words k)) (holds s.words k) (ne_eqb k n ne) ∙ sym (has-holds s k a b)
+turned_other s n ws t k a b ne = t k ∙ cond-false (eqb k n) (not (holds s.words k)) (holds s.words k) (ne_eqb k n ne) ∙ sym (has-holds s k a b)
 
 turned_same : (s : Numbers) (n : ℕ) (ws : List ℕ) → Turned s n ws → 0 < n → n ≤ most_numbers → holds ws n ≡ not (has s n)
-turned_same s n ws t a b = t n ∙ cond_true (eqb n n) (not (holds s.words n)) (holds s.words n) (eq-eqb n n refl) ∙ ap not (sym (has-holds s n a b))
+turned_same s n ws t a b = t n ∙ cond-true (eqb n n) (not (holds s.words n)) (holds s.words n) (eq-eqb n n refl) ∙ ap not (sym (has-holds s n a b))
 
 -- the greatest to n where n was taken out is the greatest that was below it
 pub turned_below : (s : Numbers) (n : ℕ) (ws : List ℕ) → Turned s n ws → has s n ≡ true → greatest (holds ws) n ≡ greatest (has s) (n - 1)
@@ -90,8 +90,8 @@ module _ (s : Numbers) (e : Sound s) (n : ℕ) where
         | inl z ↦
             (let q : s.top ≡ 0 = elim (cases_lt 0 s.top) [ inl a ↦ absurd (both_ways (has s n) out (rw z ((sound_topped s e).0 a))) | inr a ↦ omega arith ] in
             let g : s.top ≡ greatest (has s) (n - 1) = omega (arith, (greatest_is (has s) (n - 1)).0) in
-            g ∙ sym (cond_true (eqb n s.top) (greatest (has s) (n - 1)) s.top (eq-eqb n s.top z)))
-        | inr ne ↦ sym (cond_false (eqb n s.top) (greatest (has s) (n - 1)) s.top (ne_eqb n s.top ne))
+            g ∙ sym (cond-true (eqb n s.top) (greatest (has s) (n - 1)) s.top (eq-eqb n s.top z)))
+        | inr ne ↦ sym (cond-false (eqb n s.top) (greatest (has s) (n - 1)) s.top (ne_eqb n s.top ne))
       ]
 
   -- what is left has the greatest below n for its top where n was the top
@@ -101,7 +101,7 @@ module _ (s : Numbers) (e : Sound s) (n : ℕ) where
       elim (cases_eq n s.top) [
         | inl z ↦
             (let g = greatest_is (has s) (n - 1) in
-            let d : t ≡ greatest (has s) (n - 1) = f ∙ cond_true (eqb n s.top) (greatest (has s) (n - 1)) s.top (eq-eqb n s.top z) in
+            let d : t ≡ greatest (has s) (n - 1) = f ∙ cond-true (eqb n s.top) (greatest (has s) (n - 1)) s.top (eq-eqb n s.top z) in
             greatest_of (excluding s n) most_numbers t (omega (arith, g.0, b.1))
             (λ p. excluding_other s n t (omega (arith, g.0, b.0)) ∙ rw d (g.1 (omega arith)))
             (λ k u v.
@@ -110,7 +110,7 @@ module _ (s : Numbers) (e : Sound s) (n : ℕ) where
               | inr ne ↦ excluding_other s n k ne ∙ elim (cases_lt k n) [ inl l ↦ g.2 k (omega arith) (omega arith) | inr l ↦ (sound_topped s e).1 k (omega arith) ]
             ]))
         | inr ne ↦
-            (let d : t ≡ s.top = f ∙ cond_false (eqb n s.top) (greatest (has s) (n - 1)) s.top (ne_eqb n s.top ne) in
+            (let d : t ≡ s.top = f ∙ cond-false (eqb n s.top) (greatest (has s) (n - 1)) s.top (ne_eqb n s.top ne) in
             greatest_of (excluding s n) most_numbers t (omega (arith, sound_small s e))
             (λ p. excluding_other s n t (omega arith) ∙ rw d ((sound_topped s e).0 (omega arith)))
             (λ k u v. excluding_other s n k (omega (arith, below_top h)) ∙ (sound_topped s e).1 k (omega arith)))

@@ -1,7 +1,7 @@
 -- One more place, for a loop that keeps the foremost so far. The element x stands at i, and y at the foremost so far.
 use Rattle.std.proofs.Common.{◌≡◌, ℕ, zero, suc, ◌+◌, ◌<◌, Bool, true, false, cond, ◌&&◌, List, [], ◌∷◌, map, length, get_or, Some, None, Option, sym, refl, ap, ◌∙◌, subst, inl, inr, arith}
 use Rattle.std.proofs.lemmas.List.{get_or_read}
-use Rattle.std.proofs.lemmas.Bool.{and_cases, and_parts, both_ways, cases_Bool, cases_eq, cases_order, cond_both, cond_false, cond_true}
+use Rattle.std.proofs.lemmas.Bool.{and_cases, and_parts, both_ways, cases_Bool, cases_eq, cases_order, cond_both, cond-false, cond-true}
 use Rattle.std.specs.Option.{option_map}
 use Rattle.parts.specs.Foremost.{Foremost, ahead_if, ahead_of, foremost_from, foremost_of}
 
@@ -193,7 +193,7 @@ module _ {X Y : Type 0} (f : X → Y) (w : X → Bool) (a : X → X → Bool) (w
   ahead_along i x None = refl
   ahead_along i x (Some y) =
       ap (λ b. cond b (along y) (i, f x)) (aheads y.1 x) ∙ cond_both (a y.1 x) y (i, x) (λ z. cond (a y.1 x) (along y) (i, f x) ≡ along z)
-      (λ t. cond_true (a y.1 x) (along y) (i, f x) t) (λ t. cond_false (a y.1 x) (along y) (i, f x) t)
+      (λ t. cond-true (a y.1 x) (along y) (i, f x) t) (λ t. cond-false (a y.1 x) (along y) (i, f x) t)
 
   if_along : (b : Bool) (i : ℕ) (x : X) (o : Option (ℕ × X)) → ahead_if b a' i (f x) (option_map along o) ≡ option_map along (ahead_if b a i x o)
   if_along true i x o = ap Some (ahead_along i x o)

@@ -1,6 +1,6 @@
 -- Walks over a sound set: the next number, what lies between two, the rising list.
 use Rattle.std.proofs.Common.{◌≡◌, ℕ, ◌+◌, ◌-◌, ◌<◌, ◌≤◌, List, [], ◌∷◌, ◌++◌, length, get_or, take, drop, set, IfSome, Some, None, Option, sym, ap, ◌∙◌, inl, inr, arith}
-use Rattle.std.proofs.lemmas.List.{append_assoc, drop_more, length-drop, length-take_le, set_at, take_more}
+use Rattle.std.proofs.lemmas.List.{append_assoc, drop_more, length-drop, length-take-le, set_at, take_more}
 use Rattle.std.proofs.lemmas.Bool.{both_ways, cases_lt}
 use Rattle.bitmap.specs.Passing.{Next, rising_from}
 use Rattle.bitmap.specs.Words.{holds}
@@ -44,7 +44,7 @@ put_next rs old out rest d n l h e f =
     let head : get_or rs d 0 ≡ n = cc in
     let t : take (d + 1) rs ≡ take d rs ++ n ∷ [] = take_more rs d 0 long ∙ ap (λ x. take d rs ++ x ∷ []) head in (
       ap (λ xs. set xs d n) (e ∙ ap (λ xs. take d rs ++ xs) (drop_more old d 0 l))
-          ∙ set_at (take d rs) (get_or old d 0) (drop (d + 1) old) n d (length-take_le d rs h)
+          ∙ set_at (take d rs) (get_or old d 0) (drop (d + 1) old) n d (length-take-le d rs h)
           ∙ sym (ap (λ xs. xs ++ drop (d + 1) old) t ∙ append_assoc (take d rs) (n ∷ []) (drop (d + 1) old)),
       cc,
       omega arith,

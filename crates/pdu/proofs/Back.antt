@@ -1,7 +1,7 @@
 -- What is written is read back.
 use Rattle.std.proofs.Common.{◌≡◌, ℕ, suc, ◌+◌, ◌-◌, ◌*◌, ◌/◌, ◌%◌, ◌^◌, ◌<◌, ◌≤◌, Bool, true, false, cond, not, ltb, List, [], ◌∷◌, ◌++◌, length, drop, Some, None, Ok, Option, refl, ap, ◌∙◌, arith}
 use Rattle.std.proofs.lemmas.List.{take_all, drop_all}
-use Rattle.std.proofs.lemmas.Bool.{ltb-false, le-ltb, cond_false}
+use Rattle.std.proofs.lemmas.Bool.{ltb-false, le-ltb, cond-false}
 use Rattle.std.proofs.lemmas.Bool.Decides.{nat_tests}
 use Rattle.std.specs.Option.{option_or}
 use Rattle.protocol.specs.Limits.{shortest, longest, is_number}
@@ -135,7 +135,7 @@ unfolding destinations_of
 destinations_back place [] small = refl
 destinations_back place (d ∷ ds) small =
     let more : ltb (length (destination_octets (d ∷ ds))) destination_size ≡ false = le-ltb _ destination_size (omega arith) in
-    cond_false _ _ _ more
+    cond-false _ _ _ more
     ∙ (λ i. record { place = place; destination = quad_back d.0 (small 0 (omega arith)).0 i; sequence = quad_back d.1 (small 0 (omega arith)).1 i }
     ∷ destinations_back (place + 8) ds (λ k h. small (suc k) (omega arith)) i)
 

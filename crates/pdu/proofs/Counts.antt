@@ -1,6 +1,6 @@
 -- An ACK and an Address that are read have as many entries and destinations as their counts say.
 use Rattle.std.proofs.Common.{◌≡◌, ℕ, zero, suc, ◌+◌, ◌-◌, ◌*◌, ◌≤◌, Bool, true, false, cond, ltb, List, [], ◌∷◌, length, drop, Some, None, Option, refl, ap, ◌∙◌, suc-mul, arith, length-drop}
-use Rattle.std.proofs.lemmas.Bool.{le-ltb, cond_false}
+use Rattle.std.proofs.lemmas.Bool.{le-ltb, cond-false}
 use Rattle.std.specs.Option.{option_or}
 use Rattle.pdu.specs.Octets.{word}
 use Rattle.pdu.specs.Read.{lower, numbers_broken, entry_numbers, entry_broken, entries_broken, entries_if, entry_of, entries_of, destinations_of}
@@ -34,5 +34,5 @@ destinations_count zero place reserved xs h = refl
 destinations_count (suc n) place reserved xs h =
     let size = suc-mul n (destination_size + reserved) in
     let more : destination_size ≤ length xs = omega arith in
-    ap length (cond_false (ltb (length xs) destination_size) [] _ (le-ltb (length xs) destination_size more))
+    ap length (cond-false (ltb (length xs) destination_size) [] _ (le-ltb (length xs) destination_size more))
     ∙ ap suc (destinations_count n (place + (destination_size + reserved)) reserved (drop (destination_size + reserved) xs) (omega (arith, length-drop (destination_size + reserved) xs)))

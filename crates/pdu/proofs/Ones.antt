@@ -1,6 +1,6 @@
 -- Sums of words, plain and in one's complement.
 use Rattle.std.proofs.Common.{◌≡◌, ℕ, zero, suc, ◌+◌, ◌-◌, ◌*◌, ◌/◌, ◌%◌, ◌<◌, ◌≤◌, eqb, ◌⊎◌, List, [], ◌∷◌, length, get_or, drop, set, sym, ap, ◌∙◌, inl, inr, ⊎_elim, arith, length-set}
-use Rattle.std.proofs.lemmas.Bool.{cases_order, cases_eq, cond_true, cond_false, eq-eqb, ne_eqb}
+use Rattle.std.proofs.lemmas.Bool.{cases_order, cases_eq, cond-true, cond-false, eq-eqb, ne_eqb}
 use Rattle.std.proofs.lemmas.List.{at_drop_more, at_drop_all, get_or-set_other}
 use Rattle.pdu.specs.Octets.{Octets, word}
 use Rattle.pdu.specs.Sum.{carried, ones_sum, blanked, checksum_of, word_sum, odd_word}
@@ -88,8 +88,8 @@ word_sum_last xs i j h e =
 pub word_sum_end : (xs : List ℕ) (i : ℕ) → i ≡ 2 * (length xs / 2) → word_sum (drop i xs) ≡ odd_word xs
 word_sum_end xs i e =
     ⊎_elim
-    (λ (odd : length xs % 2 ≡ 1). word_sum_last xs i (length xs - 1) (omega arith) (omega arith) ∙ sym (cond_true (eqb (length xs % 2) 1) _ _ (eq-eqb (length xs % 2) 1 odd)))
-    (λ (even : length xs % 2 ≡ 1 → ⊥). at_drop_all word_sum xs i (omega arith) ∙ sym (cond_false (eqb (length xs % 2) 1) _ _ (ne_eqb (length xs % 2) 1 even)))
+    (λ (odd : length xs % 2 ≡ 1). word_sum_last xs i (length xs - 1) (omega arith) (omega arith) ∙ sym (cond-true (eqb (length xs % 2) 1) _ _ (eq-eqb (length xs % 2) 1 odd)))
+    (λ (even : length xs % 2 ≡ 1 → ⊥). at_drop_all word_sum xs i (omega arith) ∙ sym (cond-false (eqb (length xs % 2) 1) _ _ (ne_eqb (length xs % 2) 1 even)))
     (cases_eq (length xs % 2) 1)
 
 -- the complement of the folded sum, the field taken off, is the Checksum

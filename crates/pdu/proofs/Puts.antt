@@ -1,7 +1,7 @@
 -- Octets written into a buffer one part after the other.
 use Rattle.std.proofs.Common.{◌≡◌, ℕ, ◌+◌, ◌-◌, ◌*◌, ◌/◌, ◌%◌, ◌<◌, ◌≤◌, ltb, List, [], ◌∷◌, ◌++◌, length, get_or, take, drop, set, None, Ok, Option, Result, sym, refl, ap, ◌∙◌, append_assoc, mul-le-mul_left, mul-suc, arith, length-append, length-drop, length-set, length-take}
-use Rattle.std.proofs.lemmas.List.{take_at, drop_at, drop-drop, take-append-drop, set-append_left, length-take_le, take_more, flat_map_more}
-use Rattle.std.proofs.lemmas.Bool.{le-ltb, cond_false}
+use Rattle.std.proofs.lemmas.List.{take_at, drop_at, drop-drop, take-append-drop, set-append_left, length-take-le, take_more, flat_map_more}
+use Rattle.std.proofs.lemmas.Bool.{le-ltb, cond-false}
 use Rattle.std.specs.List.{flat_map}
 use Rattle.protocol.specs.Causes.{Cause}
 use Rattle.pdu.specs.Sum.{checksum_of}
@@ -16,7 +16,7 @@ pub overlaid_more : (buffer : List ℕ) (p q : ℕ) (xs ys : List ℕ) → q ≡
 overlaid_more buffer p q xs ys e h =
     let whole = take p buffer ++ xs in
     let rest = drop (p + length xs) buffer in
-    let long : length whole ≡ q = length-append (take p buffer) xs ∙ omega (arith, length-take_le p buffer (omega arith)) in
+    let long : length whole ≡ q = length-append (take p buffer) xs ∙ omega (arith, length-take-le p buffer (omega arith)) in
     let split : overlaid buffer p xs ≡ whole ++ rest = sym (append_assoc (take p buffer) xs rest) in
     let size : p + length (xs ++ ys) ≡ p + length xs + length ys = omega (arith, length-append xs ys) in
     let front : take q (overlaid buffer p xs) ≡ whole = ap (take q) split ∙ take_at whole rest q long in
@@ -50,7 +50,7 @@ pub parts_more : {X : Type 0} (f : X → List ℕ) (w : ℕ) → ((x : X) → le
     → out ≡ overlaid buffer p (flat_map f (take i xs)) → out' ≡ overlaid out q ys → f (get_or xs i d) ≡ ys
     → i < length xs → q ≡ p + w * i → p + w * length xs ≤ length buffer → out' ≡ overlaid buffer p (flat_map f (take (i + 1) xs))
 parts_more f w each buffer out out' p q i xs d ys is is' part l e h =
-    let long : length (flat_map f (take i xs)) ≡ w * i = length-joined f w each (take i xs) ∙ ap (λ k. w * k) (length-take_le i xs (omega arith)) in
+    let long : length (flat_map f (take i xs)) ≡ w * i = length-joined f w each (take i xs) ∙ ap (λ k. w * k) (length-take-le i xs (omega arith)) in
     let size : length ys ≡ w = ap length (sym part) ∙ each (get_or xs i d) in
     let more : w * i + w ≤ w * length xs = omega (arith, mul-suc w i, mul-le-mul_left w l) in
     overlaid_next buffer out out' p q (flat_map f (take i xs)) ys is is' (omega arith) (omega arith)
@@ -65,7 +65,7 @@ length-sealed xs = length-set (set xs 6 _) 7 _ ∙ length-set xs 6 _
 -- two octets put into the front
 put_front : (n a b : ℕ) (xs : List ℕ) → 8 ≤ n → n ≤ length xs → set (set xs 6 a) 7 b ≡ set (set (take n xs) 6 a) 7 b ++ drop n xs
 put_front n a b xs h l =
-    let long = length-take_le n xs l in
+    let long = length-take-le n xs l in
     ap (λ ys. set (set ys 6 a) 7 b) (sym (take-append-drop n xs))
     ∙ ap (λ ys. set ys 7 b) (set-append_left (take n xs) (drop n xs) 6 a (omega arith))
     ∙ set-append_left (set (take n xs) 6 a) (drop n xs) 7 b (omega (arith, length-set (take n xs) 6 a))
@@ -107,7 +107,7 @@ pub wrote : (unfit : Option ℕ) (octets buffer out : List ℕ) (n : ℕ) → un
     → Wrote unfit octets buffer out n
 wrote unfit octets buffer out n fit size room is =
     let ok : sent unfit octets (length buffer) ≡ Ok octets =
-    ap (λ u. sent u octets (length buffer)) fit ∙ cond_false (ltb (length buffer) (length octets)) _ _ (le-ltb (length buffer) (length octets) (omega arith)) in
+    ap (λ u. sent u octets (length buffer)) fit ∙ cond-false (ltb (length buffer) (length octets)) _ _ (le-ltb (length buffer) (length octets) (omega arith)) in
     record {
       answer = ap Ok size ∙ sym (ap counted ok);
       after = is ∙ sym (ap (λ r. fronted r buffer) ok);

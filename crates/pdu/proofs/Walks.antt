@@ -1,7 +1,7 @@
 -- Going through destinations and entries, one at a time.
 use Rattle.std.proofs.Common.{◌≡◌, ℕ, zero, suc, ◌+◌, ◌-◌, ◌*◌, ◌/◌, ◌%◌, ◌<◌, ◌≤◌, min, true, false, cond, not, ◌||◌, eqb, ltb, leb, ◌⊎◌, List, [], ◌∷◌, length, get_or, take, drop, Some, None, Option, sym, refl, ap, ◌∙◌, inr, ⊎_elim, arith, length-drop}
 use Rattle.std.proofs.lemmas.List.{at_drop_more, at_drop_all, get_or-drop, drop-drop}
-use Rattle.std.proofs.lemmas.Bool.{cases_lt, lt-ltb, le-ltb, cond_true, cond_false, leb-true, le-leb, lt-leb, and_parts}
+use Rattle.std.proofs.lemmas.Bool.{cases_lt, lt-ltb, le-ltb, cond-true, cond-false, leb-true, le-leb, lt-leb, and_parts}
 use Rattle.std.proofs.lemmas.Bool.Decides.{nat_tests}
 use Rattle.std.specs.Option.{option_or}
 use Rattle.std.specs.List.{slice_get}
@@ -31,7 +31,7 @@ pub destinations-none : (count place reserved : ℕ) (xs : List ℕ) → (count 
 unfolding destinations_of
 destinations-none zero place reserved xs h = refl
 destinations-none (suc n) place reserved xs h =
-    cond_true (ltb (length xs) destination_size) _ _ (lt-ltb (length xs) destination_size (⊎_elim (λ e. omega arith) (λ l. l) h))
+    cond-true (ltb (length xs) destination_size) _ _ (lt-ltb (length xs) destination_size (⊎_elim (λ e. omega arith) (λ l. l) h))
 
 -- the rest after a step that does not go past the end
 destinations_rest : (n place reserved step : ℕ) (xs : List ℕ) → place ≤ length xs → step ≡ min (destination_size + reserved) (length xs - place)
@@ -56,7 +56,7 @@ destinations_front (suc n) place reserved step xs at d s some more e ep ed es =
     let first = quad-drop place xs 0 place p ∙ sym ed in
     let second = quad-drop place xs 4 (place + 4) refl ∙ sym es in
     let one : n ≡ suc n - 1 = omega arith in
-    cond_false (ltb (length (drop place xs)) destination_size) _ _ (le-ltb (length (drop place xs)) destination_size left)
+    cond-false (ltb (length (drop place xs)) destination_size) _ _ (le-ltb (length (drop place xs)) destination_size left)
     ∙ (λ t. record { place = sym ep t; destination = first t; sequence = second t } ∷ destinations_rest n place reserved step xs (omega arith) e t)
     ∙ ap (λ k. record { place = at; destination = d; sequence = s } ∷ destinations_of k (place + step) reserved (drop (place + step) xs)) one
 
@@ -181,10 +181,10 @@ module _ (xs : List ℕ) (p q i j n : ℕ) (more : i + 1 < length xs) (next : j 
       ∙ (λ t. cond (is_number (sym is t)) (numbers_broken (sym after t) (words_of (drop (two t) xs))) (Some p))
 
   pub numbers_on : is_number n ≡ true → numbers_broken p (words_of (drop i xs)) ≡ numbers_broken q (words_of (drop j xs))
-  numbers_on good = numbers-step ∙ cond_true (is_number n) _ _ good
+  numbers_on good = numbers-step ∙ cond-true (is_number n) _ _ good
 
   pub numbers_stop : is_number n ≡ false → numbers_broken p (words_of (drop i xs)) ≡ Some p
-  numbers_stop bad = numbers-step ∙ cond_false (is_number n) _ _ bad
+  numbers_stop bad = numbers-step ∙ cond-false (is_number n) _ _ bad
 
 pub numbers_end : (xs : List ℕ) (p i : ℕ) → length xs ≤ i + 1 → numbers_broken p (words_of (drop i xs)) ≡ None
 numbers_end xs p i h =
@@ -201,10 +201,10 @@ module _ (ns : List ℕ) (p q i j n : ℕ) (more : i < length ns) (next : j ≡ 
       ∙ (λ t. cond (is_number (sym is t)) (numbers_broken (sym after t) (drop (sym next t) ns)) (Some p))
 
   pub unwritten_on : is_number n ≡ true → numbers_broken p (drop i ns) ≡ numbers_broken q (drop j ns)
-  unwritten_on good = unwritten_step ∙ cond_true (is_number n) _ _ good
+  unwritten_on good = unwritten_step ∙ cond-true (is_number n) _ _ good
 
   pub unwritten_stop : is_number n ≡ false → numbers_broken p (drop i ns) ≡ Some p
-  unwritten_stop bad = unwritten_step ∙ cond_false (is_number n) _ _ bad
+  unwritten_stop bad = unwritten_step ∙ cond-false (is_number n) _ _ bad
 
 pub unwritten_end : (ns : List ℕ) (p i : ℕ) → length ns ≤ i → numbers_broken p (drop i ns) ≡ None
 unwritten_end ns p i h = at_drop_all (numbers_broken p) ns i h
@@ -218,10 +218,10 @@ module _ (ds : List (ℕ × ℕ)) (before p q i j d : ℕ) (more : i < length ds
       ∙ (λ t. cond (leb (sym is t) before) (Some p) (unrisen_after (sym is t) (placed (sym after t) (drop (sym next t) ds))))
 
   pub rising_on : before < d → unrisen_after before (placed p (drop i ds)) ≡ unrisen_after d (placed q (drop j ds))
-  rising_on above = rising_step ∙ cond_false (leb d before) _ _ (lt-leb d before above)
+  rising_on above = rising_step ∙ cond-false (leb d before) _ _ (lt-leb d before above)
 
   pub rising_stop : d ≤ before → unrisen_after before (placed p (drop i ds)) ≡ Some p
-  rising_stop below = rising_step ∙ cond_true (leb d before) _ _ (le-leb d before below)
+  rising_stop below = rising_step ∙ cond-true (leb d before) _ _ (le-leb d before below)
 
 pub rising_end : (ds : List (ℕ × ℕ)) (before p i : ℕ) → length ds ≤ i → unrisen_after before (placed p (drop i ds)) ≡ None
 rising_end ds before p i h = at_drop_all (λ xs. unrisen_after before (placed p xs)) ds i h

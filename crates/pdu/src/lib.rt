@@ -1,5 +1,7 @@
 // The PDUs by their definitions: specs/ says what the octets of each mean, how each is written and why one is refused,
 // and proofs/ has what follows of these definitions alone. The crate `wire` reads and writes them.
+#![tactic(auto)]
+
 ghost use Rattle.std.specs.Prelude.{◌≡◌};
 ghost use Rattle.pdu.specs.Examples.{example_checksums};
 

@@ -1,4 +1,6 @@
 // Reads datagrams in hexadecimal, one to a line, and prints what each says or why it is refused.
+#![tactic(auto)]
+
 mod dump;
 mod line;
 

@@ -1,6 +1,6 @@
 -- Why the slips cannot happen.
 use Rattle.std.proofs.Common.{◌≡◌, ℕ, zero, suc, ◌<◌, ◌≤◌, Bool, true, false, cond, not, ◌&&◌, ◌||◌, eqb, List, [], ◌∷◌, get_or, set, is_some, Some, None, Option, refl, ap, ◌∙◌, arith}
-use Rattle.std.proofs.lemmas.Bool.{cond_true, ne_eqb}
+use Rattle.std.proofs.lemmas.Bool.{cond-true, ne_eqb}
 use Rattle.std.proofs.lemmas.Bool.Decides.{nat_tests}
 use Rattle.parts.specs.Numbers.{has}
 use Rattle.protocol.specs.Limits.{last_identity}
@@ -24,7 +24,7 @@ use Rattle.rules.specs.Slips.{CompleteStays, RecordsStay, AboveLastStays, RisesF
 pub complete_stays : CompleteStays
 unfolding heard_at
 complete_stays total [] d h = refl
-complete_stays total (n ∷ ns) d h = ap is_complete_at (cond_true (is_complete_at d) d _ h) ∙ h
+complete_stays total (n ∷ ns) d h = ap is_complete_at (cond-true (is_complete_at d) d _ h) ∙ h
 
 last_below : (a : ℕ) (xs : List ℕ) → RisesFrom a xs → a ≤ last_of a xs
 last_below a [] r = omega arith

@@ -1,4 +1,6 @@
 // Fragment stores: octet strings kept by row and number, behind one interface.
+#![tactic(auto)]
+
 mod any;
 mod copy;
 mod fault;

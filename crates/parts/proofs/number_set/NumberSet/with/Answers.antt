@@ -1,5 +1,5 @@
 use Rattle.std.proofs.Common.{◌≡◌, ◌+◌, true, false, not, sym, refl, ap, ◌∙◌, rules}
-use Rattle.std.proofs.lemmas.Bool.{and_from, and_left, and_right, both_ways, cond_false, cond_true}
+use Rattle.std.proofs.lemmas.Bool.{and_from, and_left, and_right, both_ways, cond-false, cond-true}
 use Rattle.bitmap.proofs.Counts.{tally_le}
 use Rattle.protocol.specs.Limits.{is_number, most_numbers}
 use Rattle.parts.specs.declared.numbers.Numbers.{Numbers}
@@ -17,8 +17,8 @@ returns-then-not-is-number c =
     let w = with_kept s.numbers s.sound n (λ e. absurd (both_ways (is_number n) out e)) in
     record {
       members = members_of _ (including s.numbers n) w;
-      count = sym (cond_false _ _ _ (and_left (is_number n) (not (has s.numbers n)) out));
-      top = sym (cond_false _ _ _ out);
+      count = sym (cond-false _ _ _ (and_left (is_number n) (not (has s.numbers n)) out));
+      top = sym (cond-false _ _ _ out);
       whole = w;
     }
 
@@ -30,8 +30,8 @@ returns-then-contains c =
     let w = with_kept s.numbers s.sound n (λ _. held) in
     record {
       members = members_of _ (including s.numbers n) w;
-      count = sym (cond_false _ _ _ (and_right (is_number n) (not (has s.numbers n)) (ap not held)));
-      top = with_top s.numbers s.sound n held ∙ sym (cond_true _ _ _ (sym c.is-number.ensures.value ∙ c.if-not-is-number.false));
+      count = sym (cond-false _ _ _ (and_right (is_number n) (not (has s.numbers n)) (ap not held)));
+      top = with_top s.numbers s.sound n held ∙ sym (cond-true _ _ _ (sym c.is-number.ensures.value ∙ c.if-not-is-number.false));
       whole = w;
     }
 
@@ -66,7 +66,7 @@ returns c =
     let is : is_number n ≡ true = sym c.is-number.ensures.value ∙ c.if-not-is-number.false in
     record {
       members = members_of _ (including s.numbers n) w;
-      count = sym (cond_true _ _ _ (and_from (is_number n) (not (has s.numbers n)) is (ap not (sym c.contains.ensures.value ∙ c.if-contains.false))));
-      top = c.max-top.ensures ∙ sym (cond_true _ _ _ is);
+      count = sym (cond-true _ _ _ (and_from (is_number n) (not (has s.numbers n)) is (ap not (sym c.contains.ensures.value ∙ c.if-contains.false))));
+      top = c.max-top.ensures ∙ sym (cond-true _ _ _ is);
       whole = w;
     }

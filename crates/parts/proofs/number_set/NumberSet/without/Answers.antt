@@ -1,5 +1,5 @@
 use Rattle.std.proofs.Common.{◌≡◌, ℕ, ◌-◌, true, false, cond, eqb, sym, ap, ◌∙◌, arith}
-use Rattle.std.proofs.lemmas.Bool.{cond_false, cond_true}
+use Rattle.std.proofs.lemmas.Bool.{cond-false, cond-true}
 use Rattle.bitmap.specs.Passing.{greatest}
 use Rattle.bitmap.specs.Words.{holds}
 use Rattle.parts.specs.declared.numbers.Numbers.{Numbers}
@@ -17,7 +17,7 @@ returns-then-not-contains c =
     let w = without-kept s.numbers s.sound n out in
     record {
       members = members_of _ (excluding s.numbers n) w;
-      count = sym (cond_false _ _ _ out);
+      count = sym (cond-false _ _ _ out);
       top = without_top s.numbers s.sound n out;
       whole = w;
     }
@@ -62,7 +62,7 @@ returns c =
     let w = made (goal.at.returns c).After-top-without-top in
     record {
       members = members_of _ (excluding s.numbers n) w;
-      count = sym (cond_true _ _ _ (sym c.contains.ensures.value ∙ c.if-not-contains.false));
+      count = sym (cond-true _ _ _ (sym c.contains.ensures.value ∙ c.if-not-contains.false));
       top = topped (goal.at.returns c).After-top-without-top;
       whole = w;
     }

@@ -1,5 +1,5 @@
 use Rattle.std.proofs.Common.{◌≡◌, ◌+◌, ◌-◌, ◌≤◌, length, take, drop, sym, ap, ◌∙◌, arith, length-drop}
-use Rattle.std.proofs.lemmas.List.{length-take_le}
+use Rattle.std.proofs.lemmas.List.{length-take-le}
 use Rattle.pdu.proofs.Walks.{entries_none, entries_stop, entries_front, broken_front, broken_stop}
 use Rattle.wire.proofs.views.Entries.front.Goals as goal
 
@@ -24,5 +24,5 @@ returns c =
     record {
       parts = entries_front self.place l self.datagram.now stands is self.count _ _ _ _ (omega arith) first.place first.source first.message numbers;
       broken = broken_front self.place l self.datagram.now stands is self.count _ _ (omega arith) first.place numbers;
-      within = (omega arith, omega (arith, c.in-Ok.ensures.within, first.place, ap length numbers, length-take_le (l - 10) (drop (self.place + 10) self.datagram.now) fits));
+      within = (omega arith, omega (arith, c.in-Ok.ensures.within, first.place, ap length numbers, length-take-le (l - 10) (drop (self.place + 10) self.datagram.now) fits));
     }
