@@ -1,7 +1,6 @@
 // The numbers of the protocol. `specs/Limits.antt` has the same numbers for the contracts.
 #![tactic(auto)]
 
-
 // A datagram has at least and at most so many octets.
 pub const SHORTEST: usize = 16;
 

@@ -1,7 +1,6 @@
 // PDUs read from datagrams and written into buffers.
 #![tactic(auto)]
 
-
 mod destinations;
 mod entries;
 mod fault;
