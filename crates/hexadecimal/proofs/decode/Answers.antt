@@ -6,10 +6,10 @@ use Rattle.hexadecimal.proofs.decode.Goals as goal
 pub returns-then-text-ne0 : goal.returns-then-text-ne0
 returns-then-text-ne0 c = record { value = odd_text c.args.text.now (omega arith) }
 
-pub returns-in-default : goal.returns-in-default
-returns-in-default c =
+pub returns-in_default : goal.returns-in_default
+returns-in_default c =
     let k = c.loop-k.k in
-    record { value = no_octet (vec_items c.loop-k.octets) c.args.text.now (2 * k) (2 * (k + 1)) (omega arith) (omega arith) _ c.in-default.ensures refl ∙ c.loop-k.invariant }
+    record { value = no_octet (vec_items c.loop-k.octets) c.args.text.now (2 * k) (2 * (k + 1)) (omega arith) (omega arith) _ c.in_default.ensures refl ∙ c.loop-k.invariant }
 
 pub loop-k-preserved : goal.loop-k-preserved
 loop-k-preserved c =
