@@ -22,13 +22,6 @@ pub record GridKept (w : ℕ) (bytes lens : List ℕ) (held : ℕ) : Type 0 wher
   pub short : Short w lens
   pub counted : Counted w bytes lens held
 
--- the same as one nested product
-abbrev pub GridGhosts : (w : ℕ) (bytes lens : List ℕ) (held : ℕ) → Type 0
-GridGhosts w bytes lens held = Sized w most_strings × (Laid w bytes lens × (Short w lens × (Counted w bytes lens held × Unit {0})))
-
-pub grid_ghosts : {w : ℕ} {bytes lens : List ℕ} {held : ℕ} → GridKept w bytes lens held → GridGhosts w bytes lens held
-grid_ghosts k = (k.sized, (k.laid, (k.short, (k.counted, tt))))
-
 module _ {w held : ℕ} {bytes lens : List ℕ} (k : GridKept w bytes lens held) where
   celled : (p : ℕ) → 0 < get_or lens p 0 → p < most_strings
   celled p h =

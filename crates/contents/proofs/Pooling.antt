@@ -27,15 +27,6 @@ pub record PoolKept (w limit depth : ℕ) (bytes cells lens spare : List ℕ) : 
   pub unused : Unused depth cells lens spare
   pub whole : Whole w limit depth bytes cells lens
 
--- the same as one nested product
-abbrev pub PoolGhosts : (w limit depth : ℕ) (bytes cells lens spare : List ℕ) → Type 0
-PoolGhosts w limit depth bytes cells lens spare =
-    Sized w limit × (Spread w limit bytes cells lens spare × (Short w lens × (Celled limit cells lens × (Apart cells lens
-    × (Stocked limit depth spare × (Distinct depth spare × (Unused depth cells lens spare × (Whole w limit depth bytes cells lens × Unit {0}))))))))
-
-pub pool_ghosts : {w limit depth : ℕ} {bytes cells lens spare : List ℕ} → PoolKept w limit depth bytes cells lens spare → PoolGhosts w limit depth bytes cells lens spare
-pool_ghosts k = (k.sized, (k.spread, (k.short, (k.celled, (k.apart, (k.stocked, (k.distinct, (k.unused, (k.whole, tt)))))))))
-
 module _ {w limit depth : ℕ} {bytes cells lens spare : List ℕ} (k : PoolKept w limit depth bytes cells lens spare) where
   pub pool_length : (r n : ℕ) → in_bounds r n ≡ true → length (string_at (pool_contents w limit bytes cells lens) r n) ≡ get_or lens (place_of r n) 0
   pool_length = held-length w limit limit bytes lens (λ p. get_or cells p 0) k.spread.0 k.short k.celled

@@ -1,5 +1,5 @@
 -- The plain value of a set of numbers, and what follows of a value that is one.
-use Rattle.std.proofs.Common.{◌≡◌, ℕ, ◌+◌, ◌-◌, ◌<◌, ◌≤◌, Bool, true, false, not, ◌&&◌, leb, List, length, get_or, sym, refl, ap, ◌∙◌, subst, inl, inr, arith}
+use Rattle.std.proofs.Common.{◌≡◌, ℕ, ◌+◌, ◌<◌, ◌≤◌, Bool, true, false, not, ◌&&◌, leb, List, length, get_or, sym, refl, ap, ◌∙◌, subst, inl, inr, arith}
 use Rattle.std.proofs.lemmas.List.{ext_get_or}
 use Rattle.std.proofs.lemmas.Bool.{and_from, and_left, and_parts, and_right, cases_Bool, le-leb, leb-true, lt-leb}
 use Rattle.bitmap.specs.Passing.{Top, greatest, rising_from, tally}
@@ -112,11 +112,12 @@ module _ (s : Numbers) (p : ℕ → Bool) (e : s ≡ set_of p) where
 
 -- ---- of a sound set
 
-abbrev pub Kept : Numbers → Type 0
-Kept s =
-    Sound s
-    × ((s.count ≡ tally (has s) most_numbers)
-    × ((s.top ≡ greatest (has s) most_numbers) × (Top (has s) s.top × ((s.count + tally (λ k. not (has s k)) s.top ≡ s.top) × Unit {0}))))
+pub record Kept (s : Numbers) : Type 0 where
+  pub sound : Sound s
+  pub counted : s.count ≡ tally (has s) most_numbers
+  pub topped : s.top ≡ greatest (has s) most_numbers
+  pub highest : Top (has s) s.top
+  pub gaps : s.count + tally (λ k. not (has s k)) s.top ≡ s.top
 
 module _ (s : Numbers) (e : Sound s) where
   pub sound_long : length s.words ≡ word_count
@@ -144,7 +145,7 @@ module _ (s : Numbers) (e : Sound s) where
 
   -- all that a set with its invariant keeps
   pub sound_kept : Kept s
-  sound_kept = (e, (sound_count, (sound_top, (sound_topped, (sound_gaps, tt)))))
+  sound_kept = record { sound = e; counted = sound_count; topped = sound_top; highest = sound_topped; gaps = sound_gaps }
 
 -- sound sets with the same members are the same value
 pub sound_same : (s t : Numbers) → Sound s → Sound t → ((k : ℕ) → 0 < k → k ≤ most_numbers → has s k ≡ has t k) → s ≡ t

@@ -3,8 +3,12 @@ use Rattle.std.specs.Prelude.{◌≡◌, ℕ, List, ◌++◌, length, take, drop
 use Rattle.std.proofs.Common.{sym, ap, ap₂, ◌∙◌}
 use Rattle.std.proofs.lemmas.List.{take_at}
 use Rattle.contents.specs.Answers.{fronted}
-use Rattle.contents.proofs.Gridding.{GridKept}
-use Rattle.contents.proofs.Pooling.{PoolKept}
+use Rattle.contents.specs.Contents.{Sound}
+use Rattle.contents.proofs.Gridding.{GridKept, grid_sound}
+use Rattle.contents.proofs.Pooling.{PoolKept, pool_sound}
+use Rattle.store.specs.Meanings.{any_of}
+use Rattle.store.specs.declared.any.AnyStore.{AnyStore}
+use Rattle.store.specs.declared.any.AnyStore.TheVariants as any
 use Rattle.store.specs.declared.grid.Grid.{Grid}
 use Rattle.store.specs.declared.pool.Pool.{Pool}
 
@@ -23,6 +27,10 @@ pool_kept p = record {
   unused = p.unused;
   whole = p.whole;
 }
+
+pub any_sound : (s : AnyStore) → Sound (any_of s)
+any_sound (any.Grid g) = grid_sound (grid_kept g)
+any_sound (any.Pool p) = pool_sound (pool_kept p)
 
 -- What a vector holds after its items were lent as the slice d, which came back as `last`.
 pub lent_back : (f : List ℕ → List ℕ) (xs d last rest : List ℕ) (len : ℕ) → d ≡ xs → last ≡ f d → length last ≡ len → take len (last ++ rest) ≡ f xs

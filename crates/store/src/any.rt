@@ -1,8 +1,6 @@
 // A grid or a pool, for programs that mix them.
 ghost use Rattle.store.specs.Meanings.{any_of};
-ghost use Rattle.contents.proofs.Gridding.{grid_sound};
-ghost use Rattle.contents.proofs.Pooling.{pool_sound};
-ghost use Rattle.store.specs.Kept.{grid_kept, pool_kept};
+ghost use Rattle.store.specs.Kept.{any_sound};
 
 use crate::fault::StoreFault;
 use crate::grid::Grid;
@@ -18,7 +16,7 @@ pub enum AnyStore {
 impl FragmentStore for AnyStore {
     ghost contents = { any_of };
 
-    ghost sound = { elim [ any.Grid g ↦ grid_sound (grid_kept g) | any.Pool p ↦ pool_sound (pool_kept p) ] };
+    ghost sound = { any_sound };
 
     fn put(&mut self, row: u8, number: u16, octets: &[u8]) -> Result<(), StoreFault> {
         match self {

@@ -6,5 +6,5 @@ use Rattle.parts.proofs.delay.delay.Goals as goal
 pub returns : goal.returns
 unfolding delay_of
 returns c =
-    let e : c.delay-at.result ≡ delay_of c.args.receiver c.args.message = c.delay-at.ensures.value ∙ ap delay_at c.index-of.ensures.value in
+    let e : c.delay_at.result ≡ delay_of c.args.receiver c.args.message = c.delay_at.ensures.value ∙ ap delay_at c.index_of.ensures.value in
     record { value = e; apart = λ o ne d. delays_apart c.args.receiver o c.args.message ne (d ∙ e); once = delays_once }

@@ -12,11 +12,11 @@ loop-done-preserved c =
     (i.2 ∙ rising_step s c.loop-done.from n c.in-Some.ensures.stands) in
     (p.2, simp length-set (omega arith), p.1, p.0)
 
-pub returns-in-default : goal.returns-in-default
-returns-in-default c =
+pub returns-in_default : goal.returns-in_default
+returns-in_default c =
     let s = c.args.set.now in
     let i = c.loop-done.invariant in
-    let d : length (rising s.numbers) ≤ c.loop-done.done = rising-done s.numbers c.loop-done.from c.loop-done.done c.in-default.ensures.stands i.2 in
+    let d : length (rising s.numbers) ≤ c.loop-done.done = rising-done s.numbers c.loop-done.from c.loop-done.done c.in_default.ensures.stands i.2 in
     record { count = omega (arith, rising_count s.numbers s.sound, i.0); written = i.3 }
 
 pub returns : goal.returns

@@ -7,7 +7,7 @@ use Rattle.parts.proofs.words.above.Goals as goal
 pub returns-then-part-ne0 : goal.returns-then-part-ne0
 returns-then-part-ne0 c =
     let ws = c.args.words.now in
-    let f : get_or ws (c.args.k / 64) 0 < 2 ^ 64 = omega (arith, c.type-inv.words) in
+    let f : get_or ws (c.args.k / 64) 0 < 2 ^ 64 = omega (arith, c.type_inv.words) in
     record {
       next = next_found ws (c.args.k / 64) (c.args.k % 64) (get_or ws (c.args.k / 64) 0 / 2 ^ (c.args.k % 64)) (c.args.k + 1) _
           refl f (omega arith) (omega arith) (omega arith) (λ i a b. absurd (let x : ⊥ = omega arith in x)) (omega arith);
@@ -20,7 +20,7 @@ loop-i-init c =
 
 pub returns-then-w-ne0 : goal.returns-then-w-ne0
 returns-then-w-ne0 c =
-    let f : get_or c.args.words.now c.loop-i.i 0 < 2 ^ 64 = omega (arith, c.type-inv.words) in
+    let f : get_or c.args.words.now c.loop-i.i 0 < 2 ^ 64 = omega (arith, c.type_inv.words) in
     record {
       next = next_found c.args.words.now c.loop-i.i 0 (get_or c.args.words.now c.loop-i.i 0) (c.args.k + 1) _
           (omega arith) f (omega arith) (omega arith) (omega arith) (λ i a b. c.loop-i.invariant i a (omega arith)) (omega arith);

@@ -12,15 +12,15 @@ use Rattle.parts.proofs.words.count_of.Goals as goal
 pub loop-i-init : goal.loop-i-init
 loop-i-init c = (sym (tally-none (holds c.args.words.now)), omega arith, below_none _)
 
-pub overflow-add-seen : goal.overflow-add-seen
-overflow-add-seen c =
+pub overflow_add-seen : goal.overflow_add-seen
+overflow_add-seen c =
     let w : ℕ = get_or c.args.words.now c.loop-i.i 0 in
-    omega (arith, ones-le 64 w (omega (arith, c.type-inv.words)))
+    omega (arith, ones-le 64 w (omega (arith, c.type_inv.words)))
 
 pub loop-i-preserved : goal.loop-i-preserved
 loop-i-preserved c =
     let w : ℕ = get_or c.args.words.now c.loop-i.i 0 in
-    let f : get_or c.args.words.now c.loop-i.i 0 < 2 ^ 64 = omega (arith, c.type-inv.words) in (
+    let f : get_or c.args.words.now c.loop-i.i 0 < 2 ^ 64 = omega (arith, c.type_inv.words) in (
       ap (λ x. x + ones (get_or c.args.words.now c.loop-i.i 0)) c.loop-i.invariant.0 ∙ sym (tally-whole c.args.words.now c.loop-i.i f),
       omega (arith, ones-le 64 w f),
       below_more _ _ c.loop-i.invariant.2 f,

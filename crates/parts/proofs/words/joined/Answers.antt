@@ -7,10 +7,10 @@ use Rattle.parts.proofs.words.joined.Goals as goal
 pub loop-i-preserved : goal.loop-i-preserved
 loop-i-preserved c =
     let ws = c.loop-i.words in (
-      length-set ws c.loop-i.i c.join-words.result ∙ c.loop-i.invariant.0,
+      length-set ws c.loop-i.i c.join_words.result ∙ c.loop-i.invariant.0,
       below_more _ _
           (λ k h. let ne : k ≢ c.loop-i.i = omega arith in rw get_or-set_other (c.loop-i.invariant.1 k h))
-          (let lt : c.loop-i.i < length ws = omega (arith, c.loop-i.invariant.0) in rw get_or-set_same c.join-words.ensures.bits),
+          (let lt : c.loop-i.i < length ws = omega (arith, c.loop-i.invariant.0) in rw get_or-set_same c.join_words.ensures.bits),
     )
 
 pub returns : goal.returns

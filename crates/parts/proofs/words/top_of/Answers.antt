@@ -6,7 +6,7 @@ use Rattle.parts.proofs.words.top_of.Goals as goal
 
 pub returns-then-t-gt0 : goal.returns-then-t-gt0
 returns-then-t-gt0 c =
-    let f : get_or c.args.words.now (c.loop-i.i - 1) 0 < 2 ^ 64 = omega (arith, c.type-inv.words) in
+    let f : get_or c.args.words.now (c.loop-i.i - 1) 0 < 2 ^ 64 = omega (arith, c.type_inv.words) in
     record {
       value = part_found c.args.words.now (c.loop-i.i - 1) 64 (get_or c.args.words.now (c.loop-i.i - 1) 0) c.high-t.result (64 * c.args.first)
           (omega arith) (sym (mod-eq_of_lt f)) c.high-t.ensures.value c.if-t-gt0.true (omega arith) (λ k a b. c.loop-i.invariant.1 k (omega arith) b);
@@ -14,7 +14,7 @@ returns-then-t-gt0 c =
 
 pub loop-i-preserved : goal.loop-i-preserved
 loop-i-preserved c =
-    let f : get_or c.args.words.now (c.loop-i.i - 1) 0 < 2 ^ 64 = omega (arith, c.type-inv.words) in (
+    let f : get_or c.args.words.now (c.loop-i.i - 1) 0 < 2 ^ 64 = omega (arith, c.type_inv.words) in (
       omega arith,
       part_pass c.args.words.now (c.loop-i.i - 1) 64 (get_or c.args.words.now (c.loop-i.i - 1) 0) c.high-t.result (64 * c.args.first)
           (omega arith) (sym (mod-eq_of_lt f)) c.high-t.ensures.value (omega arith) (λ k a b. c.loop-i.invariant.1 k (omega arith) b),

@@ -14,10 +14,10 @@ returns-then-t-eq0 c =
     let ws = c.args.words.now in
     let n = c.args.n in
     record {
-      value = c.top-of.ensures.value
+      value = c.top_of.ensures.value
           ∙ greatest_skip (holds ws) (64 * ((n - 1) / 64)) n (omega arith)
           (part_pass ws ((n - 1) / 64) ((n - 1) % 64 + 1) _ c.high-t.result n (omega arith)
-          (masked (get_or ws ((n - 1) / 64) 0) c.low-bits.result ((n - 1) % 64 + 1) c.low-bits.ensures.value (omega arith)) c.high-t.ensures.value c.if-t-eq0.true
+          (masked (get_or ws ((n - 1) / 64) 0) c.low_bits.result ((n - 1) % 64 + 1) c.low_bits.ensures.value (omega arith)) c.high-t.ensures.value c.if-t-eq0.true
           (λ k a b. absurd (let f : ⊥ = omega arith in f)));
     }
 
@@ -27,6 +27,6 @@ returns c =
     let n = c.args.n in
     record {
       value = part_found ws ((n - 1) / 64) ((n - 1) % 64 + 1) _ c.high-t.result n (omega arith)
-          (masked (get_or ws ((n - 1) / 64) 0) c.low-bits.result ((n - 1) % 64 + 1) c.low-bits.ensures.value (omega arith)) c.high-t.ensures.value (omega arith) (omega arith)
+          (masked (get_or ws ((n - 1) / 64) 0) c.low_bits.result ((n - 1) % 64 + 1) c.low_bits.ensures.value (omega arith)) c.high-t.ensures.value (omega arith) (omega arith)
           (λ k a b. absurd (let f : ⊥ = omega arith in f));
     }

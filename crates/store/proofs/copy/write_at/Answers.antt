@@ -5,6 +5,6 @@ use Rattle.store.proofs.copy.write_at.Goals as goal
 pub returns : goal.returns
 returns c = record {
   after =
-      put_mid-paste c.args.at _ c.args.dest.now c.copy-from-slice.new.self c.args.src.now (length c.args.src.now)
-      c.copy-from-slice.ensures.after (omega arith) refl;
+      put_mid-paste c.args.at _ c.args.dest.now c.copy_from_slice.new.self c.args.src.now (length c.args.src.now)
+      c.copy_from_slice.ensures.after (omega arith) refl;
 }

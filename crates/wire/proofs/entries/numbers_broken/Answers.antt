@@ -12,15 +12,15 @@ loop-k-init c =
 pub loop-k-preserved : goal.loop-k-preserved
 loop-k-preserved c =
     let k = c.loop-k.k in
-    sym (numbers_on c.args.numbers.now (c.args.place + 2 * k) (c.args.place + 2 * (k + 1)) (2 * k) (2 * (k + 1)) c.word-at-number.result
-    (omega arith) (omega arith) (omega arith) c.word-at-number.ensures (sym c.if-not-is-number.ensures))
+    sym (numbers_on c.args.numbers.now (c.args.place + 2 * k) (c.args.place + 2 * (k + 1)) (2 * k) (2 * (k + 1)) c.word_at-number.result
+    (omega arith) (omega arith) (omega arith) c.word_at-number.ensures (sym c.if-not-is_number.ensures))
     ∙ c.loop-k.invariant
 
-pub returns-then-not-is-number : goal.returns-then-not-is-number
-returns-then-not-is-number c =
+pub returns-then-not-is_number : goal.returns-then-not-is_number
+returns-then-not-is_number c =
     let k = c.loop-k.k in
-    sym (numbers_stop c.args.numbers.now (c.args.place + 2 * k) (c.args.place + 2 * (k + 1)) (2 * k) (2 * (k + 1)) c.word-at-number.result
-    (omega arith) (omega arith) (omega arith) c.word-at-number.ensures (sym c.if-not-is-number.ensures))
+    sym (numbers_stop c.args.numbers.now (c.args.place + 2 * k) (c.args.place + 2 * (k + 1)) (2 * k) (2 * (k + 1)) c.word_at-number.result
+    (omega arith) (omega arith) (omega arith) c.word_at-number.ensures (sym c.if-not-is_number.ensures))
     ∙ c.loop-k.invariant
 
 pub returns : goal.returns

@@ -9,5 +9,5 @@ returns c =
     let octets = c.args.octets.now in
     let k = p + length octets - p in
     let past : p + k ≡ p + length octets = omega arith in
-    ap (λ zs. take p out ++ (zs ++ drop k (drop p out))) c.copy-from-slice.ensures.after
+    ap (λ zs. take p out ++ (zs ++ drop k (drop p out))) c.copy_from_slice.ensures.after
     ∙ ap (λ zs. take p out ++ (octets ++ zs)) (drop-drop k p out ∙ ap (λ j. drop j out) past)

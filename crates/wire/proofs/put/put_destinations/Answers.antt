@@ -15,13 +15,13 @@ loop-d-preserved c =
     let ds = c.args.destinations.now in
     let i = c.loop-d.d-index in
     let d = get_or ds i no_addressee in
-    let both = overlaid_next c.loop-d.out _ _ c.loop-d.at (c.loop-d.at + 4) (four_octets d.destination) (four_octets d.sequence) c.put-quad.ensures.after c.put-quad-in-loop-d.ensures.after refl (omega arith) in
+    let both = overlaid_next c.loop-d.out _ _ c.loop-d.at (c.loop-d.at + 4) (four_octets d.destination) (four_octets d.sequence) c.put_quad.ensures.after c.put_quad-in-loop-d.ensures.after refl (omega arith) in
     let long = length_pairs ds in (
       omega arith,
       parts_more pair_octets 8 (λ n. refl) c.args.out.now c.loop-d.out _ c.args.place c.loop-d.at i (pairs_of ds) (0, 0) (pair_octets (pair_of d))
           c.loop-d.invariant.1 both (ap pair_octets (sym (pair-at ds i (omega arith)))) (omega arith) (omega arith) (omega arith),
       below_more _ _ c.loop-d.invariant.2
-          (subst (λ (p : ℕ × ℕ). (p.0 < 2 ^ 32) × (p.1 < 2 ^ 32)) (pair-at ds i (omega arith)) (c.put-quad.ensures.bound, c.put-quad-in-loop-d.ensures.bound)),
+          (subst (λ (p : ℕ × ℕ). (p.0 < 2 ^ 32) × (p.1 < 2 ^ 32)) (pair-at ds i (omega arith)) (c.put_quad.ensures.bound, c.put_quad-in-loop-d.ensures.bound)),
     )
 
 pub returns : goal.returns

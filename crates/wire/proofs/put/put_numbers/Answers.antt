@@ -12,7 +12,7 @@ pub loop-n-preserved : goal.loop-n-preserved
 loop-n-preserved c = (
   omega arith,
   parts_more two_octets 2 (λ n. refl) c.args.out.now c.loop-n.out _ c.args.place c.loop-n.at c.loop-n.n-index c.args.numbers.now 0 _
-      c.loop-n.invariant.1 c.put-word.ensures refl (omega arith) (omega arith) (omega arith),
+      c.loop-n.invariant.1 c.put_word.ensures refl (omega arith) (omega arith) (omega arith),
 )
 
 pub returns : goal.returns

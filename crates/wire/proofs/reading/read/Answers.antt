@@ -6,5 +6,5 @@ pub returns : goal.returns
 returns c = record {
   answer = c.parsed.ensures.answer;
   counts = c.parsed.ensures.counts;
-  damage = shown c.args.accepts c.args.datagram.now c.parsed.result (λ i. omega (arith, c.type-inv.datagram i)) c.parsed.ensures.answer;
+  damage = shown c.args.accepts c.args.datagram.now c.parsed.result (λ i. omega (arith, c.type_inv.datagram i)) c.parsed.ensures.answer;
 }

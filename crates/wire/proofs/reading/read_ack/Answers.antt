@@ -3,4 +3,4 @@ use Rattle.pdu.proofs.Counts.{entries_count}
 use Rattle.wire.proofs.reading.read_ack.Goals as goal
 
 pub returns : goal.returns
-returns c = record { answer = search rules; counts = entries_count _ _ _ (sym c.in-default.ensures) }
+returns c = record { answer = search rules; counts = entries_count _ _ _ (sym c.in_default.ensures) }

@@ -7,5 +7,5 @@ returns c =
     let xs = c.args.datagram.now in
     record {
       answer = search rules;
-      counts = destinations_count c.word-at-count.result 24 c.word-at-reserved.result (drop 24 xs) (omega (arith, length-drop 24 xs));
+      counts = destinations_count c.word_at-count.result 24 c.word_at-reserved.result (drop 24 xs) (omega (arith, length-drop 24 xs));
     }

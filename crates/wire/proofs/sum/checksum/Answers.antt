@@ -2,8 +2,8 @@ use Rattle.std.proofs.Common.{arith}
 use Rattle.pdu.proofs.Ones.{word_sum-blanked, checksum_is}
 use Rattle.wire.proofs.sum.checksum.Goals as goal
 
-pub overflow-sub-summed : goal.overflow-sub-summed
-overflow-sub-summed c = omega (arith, word_sum-blanked c.args.datagram.now (omega arith))
+pub overflow_sub-summed : goal.overflow_sub-summed
+overflow_sub-summed c = omega (arith, word_sum-blanked c.args.datagram.now (omega arith))
 
 pub returns : goal.returns
-returns c = checksum_is c.args.datagram.now c.summed.result c.folded.result (λ i. omega (arith, c.type-inv.datagram i)) (omega arith) (omega arith) c.summed.ensures c.folded.ensures
+returns c = checksum_is c.args.datagram.now c.summed.result c.folded.result (λ i. omega (arith, c.type_inv.datagram i)) (omega arith) (omega arith) c.summed.ensures c.folded.ensures

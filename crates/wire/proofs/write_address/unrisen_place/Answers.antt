@@ -8,15 +8,15 @@ use Rattle.wire.specs.Written.{pairs_of}
 use Rattle.wire.proofs.Pairs.{length_pairs, pair-at}
 use Rattle.wire.proofs.write_address.unrisen_place.Goals as goal
 
-pub returns-then-is-empty : goal.returns-then-is-empty
-returns-then-is-empty c =
+pub returns-then-is_empty : goal.returns-then-is_empty
+returns-then-is_empty c =
     let ds = c.args.destinations.now in
-    ap (λ xs. unrisen (placed 24 (pairs_of xs))) (sym (nil_from_length ds (eqb-true (length ds) 0 (sym c.if-is-empty.ensures))))
+    ap (λ xs. unrisen (placed 24 (pairs_of xs))) (sym (nil_from_length ds (eqb-true (length ds) 0 (sym c.if-is_empty.ensures))))
 
 pub loop-i-init : goal.loop-i-init
 loop-i-init c =
     let ds = c.args.destinations.now in
-    let some = eqb-false (length ds) 0 (sym c.if-is-empty.ensures) in
+    let some = eqb-false (length ds) 0 (sym c.if-is_empty.ensures) in
     let more : 0 < length ds = omega arith in
     rising-first (pairs_of ds) 24 32 _ (omega (arith, length_pairs ds)) refl (ap (λ p. p.0) (pair-at ds 0 more))
 

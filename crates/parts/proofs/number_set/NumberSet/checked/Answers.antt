@@ -9,11 +9,11 @@ use Rattle.parts.proofs.number_set.NumberSet.checked.Goals as goal
 pub returns-then-not-agree : goal.returns-then-not-agree
 returns-then-not-agree c =
     let s = c.args.numbers in
-    let t = c.set-of-set.result.numbers in
+    let t = c.set_of-set.result.numbers in
     let differ : (eqb t.count s.count && eqb t.top s.top) ≡ false = sym c.agree.ensures.value ∙ c.if-not-agree.true in
     record {
       answer = λ e.
-          let z : t ≡ s = c.set-of-set.ensures.whole (has s) (λ k a b. sym (has-holds s k a b)) ∙ sym e in
+          let z : t ≡ s = c.set_of-set.ensures.whole (has s) (λ k a b. sym (has-holds s k a b)) ∙ sym e in
           both_ways _ differ
           (and_from (eqb t.count s.count) (eqb t.top s.top) (eq-eqb t.count s.count (ap (λ (u : Numbers). u.count) z)) (eq-eqb t.top s.top (ap (λ (u : Numbers). u.top) z)));
     }

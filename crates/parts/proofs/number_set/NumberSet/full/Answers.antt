@@ -8,7 +8,7 @@ use Rattle.parts.proofs.number_set.NumberSet.full.Goals as goal
 pub returns : goal.returns
 returns c =
     let p = up_to c.args.total in
-    let w = c.set-of.ensures.whole p c.front.ensures.holds in
+    let w = c.set_of.ensures.whole p c.front.ensures.holds in
     record {
       members = members_of _ p w;
       count = count_of _ p w ∙ tally_up_to c.args.total most_numbers;

@@ -20,5 +20,5 @@ returns c =
     let s = c.args.self.now in
     let n = c.args.n in
     let o = c.above.result in
-    let h : Next (has s.numbers) n o = next_has s.numbers s.sound n c.saturating-sub.result c.saturating-sub.ensures o c.above.ensures.next in
+    let h : Next (has s.numbers) n o = next_has s.numbers s.sound n c.saturating_sub.result c.saturating_sub.ensures o c.above.ensures.next in
     record { value = next_value s.numbers n o h; stands = h; number = next_number s.numbers n o h }

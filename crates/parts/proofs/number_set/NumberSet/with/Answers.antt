@@ -9,11 +9,11 @@ use Rattle.parts.proofs.Sets.{members_of, number_bounds, sound_count, sound_fits
 use Rattle.parts.proofs.number_set.NumberSet.with.Goals as goal
 use Rattle.parts.proofs.number_set.NumberSet.with.Goals.{After-max-top}
 
-pub returns-then-not-is-number : goal.returns-then-not-is-number
-returns-then-not-is-number c =
+pub returns-then-not-is_number : goal.returns-then-not-is_number
+returns-then-not-is_number c =
     let s = c.args.self in
     let n = c.args.n in
-    let out : is_number n ≡ false = sym c.is-number.ensures.value ∙ c.if-not-is-number.true in
+    let out : is_number n ≡ false = sym c.is_number.ensures.value ∙ c.if-not-is_number.true in
     let w = with_kept s.numbers s.sound n (λ e. absurd (both_ways (is_number n) out e)) in
     record {
       members = members_of _ (including s.numbers n) w;
@@ -31,16 +31,16 @@ returns-then-contains c =
     record {
       members = members_of _ (including s.numbers n) w;
       count = sym (cond-false _ _ _ (and_right (is_number n) (not (has s.numbers n)) (ap not held)));
-      top = with_top s.numbers s.sound n held ∙ sym (cond-true _ _ _ (sym c.is-number.ensures.value ∙ c.if-not-is-number.false));
+      top = with_top s.numbers s.sound n held ∙ sym (cond-true _ _ _ (sym c.is_number.ensures.value ∙ c.if-not-is_number.false));
       whole = w;
     }
 
 pub turned-words-requires : goal.turned-words-requires
 turned-words-requires c =
-    let b = number_bounds c.args.n (sym c.is-number.ensures.value ∙ c.if-not-is-number.false) in record { low = b.0; high = b.1; fits = sound_fits c.args.self.numbers c.args.self.sound }
+    let b = number_bounds c.args.n (sym c.is_number.ensures.value ∙ c.if-not-is_number.false) in record { low = b.0; high = b.1; fits = sound_fits c.args.self.numbers c.args.self.sound }
 
-pub overflow-add-count : goal.overflow-add-count
-overflow-add-count c =
+pub overflow_add-count : goal.overflow_add-count
+overflow_add-count c =
     let s = c.args.self in
     let t = tally_le (has s.numbers) most_numbers in
     let e = sound_count s.numbers s.sound in
@@ -52,18 +52,18 @@ made c =
     let s = c.args.self in
     let n = c.args.n in
     let t = c.turned-words.ensures in
-    let b = number_bounds n (sym c.is-number.ensures.value ∙ c.if-not-is-number.false) in
+    let b = number_bounds n (sym c.is_number.ensures.value ∙ c.if-not-is_number.false) in
     with_new s.numbers s.sound n b.0 b.1 (sym c.contains.ensures.value ∙ c.if-contains.false) c.turned-words.result _ _ t.long t.fits t.turns refl c.max-top.ensures
 
-pub invariant-of-result : goal.invariant-of-result
-invariant-of-result c = sound_kept _ (sound_of _ (including c.args.self.numbers c.args.n) (made c))
+pub invariant_of-result : goal.invariant_of-result
+invariant_of-result c = let k = sound_kept _ (sound_of _ (including c.args.self.numbers c.args.n) (made c)) in record { sound = k.sound; counted = k.counted; topped = k.topped; highest = k.highest; gaps = k.gaps }
 
 pub returns : goal.returns
 returns c =
     let s = c.args.self in
     let n = c.args.n in
     let w = made (goal.at.returns c).After-max-top in
-    let is : is_number n ≡ true = sym c.is-number.ensures.value ∙ c.if-not-is-number.false in
+    let is : is_number n ≡ true = sym c.is_number.ensures.value ∙ c.if-not-is_number.false in
     record {
       members = members_of _ (including s.numbers n) w;
       count = sym (cond-true _ _ _ (and_from (is_number n) (not (has s.numbers n)) is (ap not (sym c.contains.ensures.value ∙ c.if-contains.false))));

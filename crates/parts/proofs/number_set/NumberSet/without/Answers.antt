@@ -7,7 +7,7 @@ use Rattle.parts.specs.Numbers.{excluding, has, set_of}
 use Rattle.parts.proofs.Changes.{turned_below, without-kept, without_new, without_some, without_top}
 use Rattle.parts.proofs.Sets.{has_bounds, members_of, sound_fits, sound_kept, sound_of}
 use Rattle.parts.proofs.number_set.NumberSet.without.Goals as goal
-use Rattle.parts.proofs.number_set.NumberSet.without.Goals.{After-top-without-top}
+use Rattle.parts.proofs.number_set.NumberSet.without.Goals.{After-top_without-top}
 
 pub returns-then-not-contains : goal.returns-then-not-contains
 returns-then-not-contains c =
@@ -28,22 +28,22 @@ turned-words-requires c =
     let b = has_bounds s.numbers c.args.n (sym c.contains.ensures.value ∙ c.if-not-contains.false) in
     record { low = b.0; high = b.1; fits = sound_fits s.numbers s.sound }
 
-pub overflow-sub-count : goal.overflow-sub-count
-overflow-sub-count c = without_some c.args.self.numbers c.args.self.sound c.args.n (sym c.contains.ensures.value ∙ c.if-not-contains.false)
+pub overflow_sub-count : goal.overflow_sub-count
+overflow_sub-count c = without_some c.args.self.numbers c.args.self.sound c.args.n (sym c.contains.ensures.value ∙ c.if-not-contains.false)
 
-pub top-without-top-requires : goal.top-without-top-requires
-top-without-top-requires c =
+pub top_without-top-requires : goal.top_without-top-requires
+top_without-top-requires c =
     let b = has_bounds c.args.self.numbers c.args.n (sym c.contains.ensures.value ∙ c.if-not-contains.false) in record { low = b.0; high = b.1 }
 
-topped : (c : After-top-without-top) → c.top-without-top.result ≡ cond (eqb c.args.n c.args.self.numbers.top) (greatest (has c.args.self.numbers) (c.args.n - 1)) c.args.self.numbers.top
+topped : (c : After-top_without-top) → c.top_without-top.result ≡ cond (eqb c.args.n c.args.self.numbers.top) (greatest (has c.args.self.numbers) (c.args.n - 1)) c.args.self.numbers.top
 topped c =
     let s = c.args.self.numbers in
     let n = c.args.n in
-    let e : c.top-without-top.result ≡ cond (eqb n s.top) (greatest (holds c.turned-words.result) n) s.top = c.top-without-top.ensures.value in
+    let e : c.top_without-top.result ≡ cond (eqb n s.top) (greatest (holds c.turned-words.result) n) s.top = c.top_without-top.ensures.value in
     e ∙ ap (λ (g : ℕ). cond (eqb n s.top) g s.top) (turned_below s n c.turned-words.result c.turned-words.ensures.turns (sym c.contains.ensures.value ∙ c.if-not-contains.false))
 
-made : (c : After-top-without-top)
-    → ◌≡◌ {A = Numbers} (record { words = c.turned-words.result; count = c.args.self.numbers.count - 1; top = c.top-without-top.result }) (set_of (excluding c.args.self.numbers c.args.n))
+made : (c : After-top_without-top)
+    → ◌≡◌ {A = Numbers} (record { words = c.turned-words.result; count = c.args.self.numbers.count - 1; top = c.top_without-top.result }) (set_of (excluding c.args.self.numbers c.args.n))
 made c =
     let s = c.args.self in
     let n = c.args.n in
@@ -52,17 +52,17 @@ made c =
     let some = without_some s.numbers s.sound n held in
     without_new s.numbers s.sound n held c.turned-words.result _ _ t.long t.fits t.turns (omega arith) (topped c)
 
-pub invariant-of-result : goal.invariant-of-result
-invariant-of-result c = sound_kept _ (sound_of _ (excluding c.args.self.numbers c.args.n) (made c))
+pub invariant_of-result : goal.invariant_of-result
+invariant_of-result c = let k = sound_kept _ (sound_of _ (excluding c.args.self.numbers c.args.n) (made c)) in record { sound = k.sound; counted = k.counted; topped = k.topped; highest = k.highest; gaps = k.gaps }
 
 pub returns : goal.returns
 returns c =
     let s = c.args.self in
     let n = c.args.n in
-    let w = made (goal.at.returns c).After-top-without-top in
+    let w = made (goal.at.returns c).After-top_without-top in
     record {
       members = members_of _ (excluding s.numbers n) w;
       count = sym (cond-true _ _ _ (sym c.contains.ensures.value ∙ c.if-not-contains.false));
-      top = topped (goal.at.returns c).After-top-without-top;
+      top = topped (goal.at.returns c).After-top_without-top;
       whole = w;
     }

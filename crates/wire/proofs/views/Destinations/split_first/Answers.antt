@@ -10,7 +10,7 @@ returns-then-self-eq0 c = record {
 
 pub returns : goal.returns
 returns c =
-    let first = c.destination-at-first.ensures in
+    let first = c.destination_at-first.ensures in
     record {
       parts = destinations_front _ _ _ _ _ _ _ _ (omega arith) (omega arith) (omega arith) (ap (λ d. d.place) first) (ap (λ d. d.destination) first) (ap (λ d. d.sequence) first);
       count = omega arith;

@@ -4,7 +4,7 @@ use Rattle.pdu.proofs.Walks.{entries_none, entries_stop, entries_front, broken_f
 use Rattle.wire.proofs.views.Entries.front.Goals as goal
 
 pub returns-then-self-eq0 : goal.returns-then-self-eq0
-returns-then-self-eq0 c = record { parts = entries_none _ _ _ (omega arith); broken = sym c.rest-broken.ensures; within = tt }
+returns-then-self-eq0 c = record { parts = entries_none _ _ _ (omega arith); broken = sym c.rest_broken.ensures; within = tt }
 
 pub returns-in-Err : goal.returns-in-Err
 returns-in-Err c =
@@ -17,7 +17,7 @@ returns c =
     let l = c.in-Ok.length in
     let stands = c.in-Ok.ensures.broken in
     let is = c.in-Ok.ensures.within.0 in
-    let first = c.entry-at-first.ensures in
+    let first = c.entry_at-first.ensures in
     let width : self.place + l - (self.place + 10) ≡ l - 10 = omega (arith, c.in-Ok.ensures.within) in
     let numbers = first.numbers ∙ ap (λ k. take k (drop (self.place + 10) self.datagram.now)) width in
     let fits : l - 10 ≤ length (drop (self.place + 10) self.datagram.now) = omega (arith, c.in-Ok.ensures.within, length-drop (self.place + 10) self.datagram.now) in

@@ -7,13 +7,13 @@ use Rattle.wire.proofs.views.Entry.number.Goals as goal
 pub returns-then-k-count : goal.returns-then-k-count
 returns-then-k-count c = record { value = sym (slice_get_past (words_of c.args.self.now.numbers.now) c.args.k (omega arith)) }
 
-pub overflow-mul-k : goal.overflow-mul-k
-overflow-mul-k c = omega (arith, length_words c.args.self.now.numbers.now)
+pub overflow_mul-k : goal.overflow_mul-k
+overflow_mul-k c = omega (arith, length_words c.args.self.now.numbers.now)
 
-pub word-at-requires : goal.word-at-requires
-word-at-requires c = omega (arith, length_words c.args.self.now.numbers.now)
+pub word_at-requires : goal.word_at-requires
+word_at-requires c = omega (arith, length_words c.args.self.now.numbers.now)
 
 pub returns : goal.returns
 returns c =
     let xs = c.args.self.now.numbers.now in
-    record { value = ap Some c.word-at.ensures ∙ sym (words_at xs c.args.k (omega (arith, length_words xs))) }
+    record { value = ap Some c.word_at.ensures ∙ sym (words_at xs c.args.k (omega (arith, length_words xs))) }

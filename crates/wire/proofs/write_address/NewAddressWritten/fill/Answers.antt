@@ -7,17 +7,17 @@ use Rattle.wire.specs.Written.{pairs_of}
 use Rattle.wire.proofs.Pairs.{length_pairs}
 use Rattle.wire.proofs.write_address.NewAddressWritten.fill.Goals as goal
 
-pub overflow-cast-self : goal.overflow-cast-self
-overflow-cast-self c = omega (arith, length-destinations (pairs_of c.args.self.now.destinations.now), length_pairs c.args.self.now.destinations.now)
+pub overflow_cast-self : goal.overflow_cast-self
+overflow_cast-self c = omega (arith, length-destinations (pairs_of c.args.self.now.destinations.now), length_pairs c.args.self.now.destinations.now)
 
-pub put-destinations-requires : goal.put-destinations-requires
-put-destinations-requires c = omega (arith, length-destinations (pairs_of c.args.self.now.destinations.now), length_pairs c.args.self.now.destinations.now)
+pub put_destinations-requires : goal.put_destinations-requires
+put_destinations-requires c = omega (arith, length-destinations (pairs_of c.args.self.now.destinations.now), length_pairs c.args.self.now.destinations.now)
 
 pub returns : goal.returns
 returns c =
     let a = c.args.self.now in
     let ds = pairs_of a.destinations.now in
-    let o = c.put-head.new.out in
+    let o = c.put_head.new.out in
     let long = length-destinations ds in
     let many = length_pairs a.destinations.now in
     let source = four_octets a.source in
@@ -25,13 +25,13 @@ returns c =
     let expiry = message ++ four_octets a.expiry in
     let count = expiry ++ two_octets (length ds) in
     let reserved = count ++ two_octets 0 in
-    let counted = c.put-word.ensures ∙ ap (λ n. overlaid c.put-quad-3.new.out 20 (two_octets n)) (sym many) in
-    let b = overlaid_next o _ _ 8 12 source (four_octets a.message) c.put-quad.ensures.after c.put-quad-2.ensures.after refl (omega arith) in
-    let d = overlaid_next o _ _ 8 16 message (four_octets a.expiry) b c.put-quad-3.ensures.after refl (omega arith) in
+    let counted = c.put_word.ensures ∙ ap (λ n. overlaid c.put_quad-3.new.out 20 (two_octets n)) (sym many) in
+    let b = overlaid_next o _ _ 8 12 source (four_octets a.message) c.put_quad.ensures.after c.put_quad-2.ensures.after refl (omega arith) in
+    let d = overlaid_next o _ _ 8 16 message (four_octets a.expiry) b c.put_quad-3.ensures.after refl (omega arith) in
     let e = overlaid_next o _ _ 8 20 expiry (two_octets (length ds)) d counted refl (omega arith) in
-    let f = overlaid_next o _ _ 8 22 count (two_octets 0) e c.put-word-2.ensures refl (omega arith) in
-    let body = overlaid_next o _ _ 8 24 reserved (destination_octets ds) f c.put-destinations.ensures.after refl (omega arith) in
+    let f = overlaid_next o _ _ 8 22 count (two_octets 0) e c.put_word-2.ensures refl (omega arith) in
+    let body = overlaid_next o _ _ 8 24 reserved (destination_octets ds) f c.put_destinations.ensures.after refl (omega arith) in
     record {
-      after = pdu_filled a.priority 2 a.total c.args.size (reserved ++ destination_octets ds) c.args.out.now o _ _ c.put-head.ensures body c.seal.ensures (omega arith) (omega arith);
-      back = address_back a.priority a.total a.source a.message a.expiry ds (omega arith) (omega arith) (omega arith) c.put-destinations.ensures.bounds c.requires.fit;
+      after = pdu_filled a.priority 2 a.total c.args.size (reserved ++ destination_octets ds) c.args.out.now o _ _ c.put_head.ensures body c.seal.ensures (omega arith) (omega arith);
+      back = address_back a.priority a.total a.source a.message a.expiry ds (omega arith) (omega arith) (omega arith) c.put_destinations.ensures.bounds c.requires.fit;
     }

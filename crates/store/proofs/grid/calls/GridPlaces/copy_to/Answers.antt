@@ -3,16 +3,16 @@ use Rattle.contents.proofs.Gridding.{grid_octets, grid_room, grid_sound}
 use Rattle.store.specs.Kept.{copied_out, grid_kept}
 use Rattle.store.proofs.grid.calls.GridPlaces.copy_to.Goals as goal
 
-pub copy-out-requires : goal.copy-out-requires
-copy-out-requires c =
+pub copy_out-requires : goal.copy_out-requires
+copy_out-requires c =
     let k = grid_kept c.args.self.now in
     let w = (grid_sound k).within c.args.row c.args.number in
-    let r = grid_room k c.place-of.result c.length-at.result c.place-of.ensures.low (omega arith) in
+    let r = grid_room k c.place_of.result c.length_at.result c.place_of.ensures.low (omega arith) in
     record { source = omega arith; room = omega arith }
 
 pub returns : goal.returns
 returns c = record {
   buffer =
-      copied_out _ _ _ _ _ _ _ c.copy-out.ensures.after c.length-at.ensures.answer c.deref.ensures.value
-      (grid_octets (grid_kept c.args.self.now) c.args.row c.args.number c.place-of.result c.requires.bounds c.place-of.ensures.place);
+      copied_out _ _ _ _ _ _ _ c.copy_out.ensures.after c.length_at.ensures.answer c.deref.ensures.value
+      (grid_octets (grid_kept c.args.self.now) c.args.row c.args.number c.place_of.result c.requires.bounds c.place_of.ensures.place);
 }
