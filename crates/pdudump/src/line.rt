@@ -44,7 +44,7 @@ pub fn parse(heap: Global, text: &[u8]) -> Result<Line, AllocError> {
 
 // `-` stands for no octets; nothing at all is malformed.
 fn datagram(heap: Global, end: Accepts, text: &[u8]) -> Result<Line, AllocError> {
-    if text == b"-" {
+    if text == b"-".as_slice() {
         return Ok(Line::Datagram(end, Vec::new(heap)));
     }
     if text.is_empty() {
