@@ -1,4 +1,4 @@
-// Links the static library of the crate `gauge`; the script .ci/bench says where it lies.
+// Links the static library of the crate `gauge_c`; the script .ci/bench says where it lies.
 fn main() {
     for name in ["GAUGE_DIR", "RATTLE_LIB"] {
         println!("cargo:rerun-if-env-changed={name}");
@@ -7,5 +7,5 @@ fn main() {
         }
     }
     println!("cargo:rustc-link-lib=static=gauge");
-    println!("cargo:rustc-link-lib=static=rattle_c");
+    println!("cargo:rustc-link-lib=static=libc_c");
 }

@@ -54,8 +54,7 @@ fn rounds_of<S: FragmentStore>(store: &mut S, rounds: u32, octets: &[u8]) -> u64
 }
 
 // A new grid under load; 0 if it cannot be made.
-#[unsafe(no_mangle)]
-pub extern "C" fn gauge_grid(heap: Global, rounds: u32, octets: &[u8]) -> u64
+pub fn gauge_grid(heap: Global, rounds: u32, octets: &[u8]) -> u64
     ensures bound { result ≤ most_numbers * rounds }
 {
     match Grid::new(heap, MOST_WIDTH) {
@@ -68,8 +67,7 @@ pub extern "C" fn gauge_grid(heap: Global, rounds: u32, octets: &[u8]) -> u64
 }
 
 // A new pool under load; 0 if it cannot be made.
-#[unsafe(no_mangle)]
-pub extern "C" fn gauge_pool(heap: Global, rounds: u32, octets: &[u8]) -> u64
+pub fn gauge_pool(heap: Global, rounds: u32, octets: &[u8]) -> u64
     ensures bound { result ≤ most_numbers * rounds }
 {
     match Pool::new(heap, MOST_WIDTH, MOST_STRINGS) {
