@@ -12,6 +12,7 @@ import subprocess
 from pathlib import Path
 
 NAMES = """
+isNumber=is_number top-of=top_of
 Above-last-stays=AboveLastStays Complete-is-there=CompleteIsThere Complete-stays=CompleteStays Damage-shows=DamageShows
 Every-call-goes-on=EveryCallGoesOn Every-run-is-lawful=EveryRunIsLawful Handed-over-is-submitted=HandedOverIsSubmitted Handed-over-once=HandedOverOnce
 Left-out-was-held=LeftOutWasHeld Records-stay=RecordsStay Submitted-once=SubmittedOnce above-last-stays=above_last_stays ack-back=ack_back
