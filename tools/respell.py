@@ -25,7 +25,7 @@ address-record-named=address_record_named address-row-named=address_row_named ad
 addressAgainst=address_against addressArrival=address_arrival addressAt=address_at addressAtNone=address_at_none addressAtRecord=address_at_record
 addressAtRow=address_at_row addressBroken=address_broken addressCount=address_count addressDestinations=address_destinations addressFor=address_for
 addressHead=address_head addressIn=address_in addressOctets=address_octets addressSent=address_sent addressType=address_type
-addressUnfit=address_unfit afterAgain=after_again afterRing=after_ring again-ok=again_ok ahead-along=ahead_along ahead-of=ahead_of_others
+addressUnfit=address_unfit afterAgain=left_after_again afterRing=left_after_ring again-ok=again_ok ahead-along=ahead_along ahead-of=ahead_of_others
 aheadIf=ahead_if all-consIf=all_cons_if all-present=all_present all-single=all_single all-sourced=all_sourced allHeard=all_heard allTo=all_to
 answered-by=answered_by answers-are=answers_are answersOf=answers_of any-low=any_low apart-set=apart_set append-elsewhere=append_elsewhere
 append-found=append_found append-here=append_here append-sourced=append_sourced append-with=append_with_lem append-with-sourced=append_with_sourced

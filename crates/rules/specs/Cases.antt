@@ -16,12 +16,12 @@ use Rattle.rules.specs.SenderDrafts.{new_sender, sender_begin}
 use Rattle.rules.specs.SenderTick.{longer}
 
 -- The list 1, 1 of 2: the pair covers all above 1 and all below 1.
-abbrev pub after_again : List ℕ
-after_again = rising (marked (set_of (up_to 2)) 2 (1 ∷ 1 ∷ []))
+abbrev pub left_after_again : List ℕ
+left_after_again = rising (marked (set_of (up_to 2)) 2 (1 ∷ 1 ∷ []))
 
 -- The list 3, 5, 3 of 6: between 3 and 5; above 5 and below 3.
-abbrev pub after_ring : List ℕ
-after_ring = rising (marked (set_of (up_to 6)) 6 (3 ∷ 5 ∷ 3 ∷ []))
+abbrev pub left_after_ring : List ℕ
+left_after_ring = rising (marked (set_of (up_to 6)) 6 (3 ∷ 5 ∷ 3 ∷ []))
 
 -- so many waits, each grown from the last
 abbrev pub waits_from : ℕ → ℕ → List ℕ

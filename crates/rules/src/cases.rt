@@ -1,6 +1,6 @@
 // Worked cases of the rules.
 ghost use Rattle.std.specs.Prelude.{◌≡◌};
-ghost use Rattle.rules.specs.Cases.{Edges, after_again, after_ring, example_waits};
+ghost use Rattle.rules.specs.Cases.{Edges, example_waits, left_after_again, left_after_ring};
 ghost use Rattle.rules.specs.Slips.{CompleteStays, RecordsStay, AboveLastStays};
 ghost use Rattle.pdu.specs.Examples.{example_checksums};
 
@@ -26,8 +26,8 @@ fn growing_waits() -> [u32; 8]
 // older list does not take "complete" back, no Address drops a record, a rising list says nothing of what is above its last number.
 pub fn worked_cases() -> Worked
     ensures checksums { result.checksums ≡ example_checksums }
-    ensures again { result.after_again ≡ after_again }
-    ensures ring { result.after_ring ≡ after_ring }
+    ensures again { result.after_again ≡ left_after_again }
+    ensures ring { result.after_ring ≡ left_after_ring }
     ensures waits { result.waits ≡ example_waits }
     ensures edges { Edges }
     ensures complete { CompleteStays }

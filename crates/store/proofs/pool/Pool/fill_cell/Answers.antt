@@ -3,7 +3,8 @@ use lib.Seq.{paste}
 use Rattle.contents.proofs.Bounds.{fits_are}
 use Rattle.contents.proofs.Pooling.{pool_put_after, pool_put_keeps, pool_put_room}
 use Rattle.store.specs.Meanings.{pool_of}
-use Rattle.store.specs.Kept.{lent_back, pool_kept}
+use Rattle.store.specs.Kept.{pool_kept}
+use Rattle.store.proofs.Lent.{lent_back}
 use Rattle.store.proofs.pool.Pool.fill_cell.Goals as goal
 
 pub write_string-requires : goal.write_string-requires

@@ -1,6 +1,7 @@
 use Rattle.std.proofs.Common.{arith}
 use Rattle.contents.proofs.Gridding.{grid_octets, grid_room, grid_sound}
-use Rattle.store.specs.Kept.{copied_out, grid_kept}
+use Rattle.store.specs.Kept.{grid_kept}
+use Rattle.store.proofs.Lent.{copied_out}
 use Rattle.store.proofs.grid.calls.GridPlaces.copy_to.Goals as goal
 
 pub copy_out-requires : goal.copy_out-requires

@@ -3,7 +3,8 @@ use lib.Seq.{paste}
 use Rattle.contents.proofs.Bounds.{fits_are}
 use Rattle.contents.proofs.Gridding.{grid_put_after, grid_put_keeps, grid_put_room, grid_sound}
 use Rattle.store.specs.Meanings.{grid_of}
-use Rattle.store.specs.Kept.{grid_kept, lent_back}
+use Rattle.store.specs.Kept.{grid_kept}
+use Rattle.store.proofs.Lent.{lent_back}
 use Rattle.store.proofs.grid.calls.GridPlaces.fill.Goals as goal
 
 pub write_string-requires : goal.write_string-requires

@@ -1,6 +1,7 @@
 use Rattle.std.proofs.Common.{arith}
 use Rattle.contents.proofs.Pooling.{pool_octets, pool_room}
-use Rattle.store.specs.Kept.{copied_out, pool_kept}
+use Rattle.store.specs.Kept.{pool_kept}
+use Rattle.store.proofs.Lent.{copied_out}
 use Rattle.store.proofs.pool.calls.PoolPlaces.copy_to.Goals as goal
 
 pub copy_out-requires : goal.copy_out-requires
