@@ -1,6 +1,9 @@
 // The numbers of the protocol. `specs/Limits.antt` has the same numbers for the contracts.
 #![tactic(auto)]
 
+ghost use Rattle.std.specs.Prelude.{◌≡◌};
+ghost use Rattle.protocol.specs.Limits.{is_number};
+
 // A datagram has at least and at most so many octets.
 pub const SHORTEST: usize = 16;
 
@@ -11,6 +14,13 @@ pub const WORDS: usize = 4;
 
 // Fragment numbers and totals lie in 1 to this.
 pub const NUMBERS: u16 = 64 * WORDS as u16;
+
+// Whether a fragment or a total may have this number.
+pub fn is_number(number: u16) -> bool
+    ensures value { result ≡ is_number number }
+{
+    (1..=NUMBERS).contains(&number)
+}
 
 // Each end has so many rows, and so has a store.
 pub const ROWS: u8 = 8;
