@@ -7,7 +7,7 @@ ghost use Rattle.protocol.specs.Limits.{most_numbers};
 
 use protocol::{MOST_STRINGS, MOST_WIDTH, NUMBERS};
 use std::alloc::Global;
-use store::{FragmentStore, Grid, Pool};
+use store::{FragmentStore, Grid, Pool, StoreFault};
 
 const BUFFER: usize = MOST_WIDTH as usize;
 
@@ -17,23 +17,18 @@ fn put_and_get<S: FragmentStore>(
     number: u16,
     octets: &[u8],
     out: &mut [u8],
-) -> usize {
-    if store.put(0, number, octets).is_err() {
-        return 0;
-    }
-    match store.get(0, number, out) {
-        Ok(length) => length,
-        Err(_) => 0,
-    }
+) -> Result<usize, StoreFault> {
+    store.put(0, number, octets)?;
+    store.get(0, number, out)
 }
 
-// One round: how many strings came back whole.
+// One round: how many strings came back whole. One that was refused has no octets.
 fn round<S: FragmentStore>(store: &mut S, octets: &[u8], out: &mut [u8]) -> u16
     ensures bound { result ≤ most_numbers }
 {
     let mut whole = 0;
-    for i in 0..NUMBERS {
-        if put_and_get(store, i + 1, octets, out) == octets.len() {
+    for number in 1..=NUMBERS {
+        if put_and_get(store, number, octets, out).unwrap_or(0) == octets.len() {
             whole += 1;
         }
     }
@@ -47,34 +42,29 @@ fn rounds_of<S: FragmentStore>(store: &mut S, rounds: u32, octets: &[u8]) -> u64
 {
     let mut out = [0u8; BUFFER];
     let mut whole: u64 = 0;
-    for _i in 0..rounds {
+    for _ in 0..rounds {
         whole += round(store, octets, &mut out) as u64;
     }
     whole
+}
+
+// A store that was made under load; 0 if it could not be made.
+fn gauge<S: FragmentStore + Drop>(made: Result<S, StoreFault>, rounds: u32, octets: &[u8]) -> u64
+    ensures bound { result ≤ most_numbers * rounds }
+{
+    made.map_or(0, |mut store| rounds_of(&mut store, rounds, octets))
 }
 
 // A new grid under load; 0 if it cannot be made.
 pub fn gauge_grid(heap: Global, rounds: u32, octets: &[u8]) -> u64
     ensures bound { result ≤ most_numbers * rounds }
 {
-    match Grid::new(heap, MOST_WIDTH) {
-        Ok(grid) => {
-            let mut grid = grid;
-            rounds_of(&mut grid, rounds, octets)
-        }
-        Err(_) => 0,
-    }
+    gauge(Grid::new(heap, MOST_WIDTH), rounds, octets)
 }
 
 // A new pool under load; 0 if it cannot be made.
 pub fn gauge_pool(heap: Global, rounds: u32, octets: &[u8]) -> u64
     ensures bound { result ≤ most_numbers * rounds }
 {
-    match Pool::new(heap, MOST_WIDTH, MOST_STRINGS) {
-        Ok(pool) => {
-            let mut pool = pool;
-            rounds_of(&mut pool, rounds, octets)
-        }
-        Err(_) => 0,
-    }
+    gauge(Pool::new(heap, MOST_WIDTH, MOST_STRINGS), rounds, octets)
 }

@@ -33,12 +33,12 @@ fn octet(high: u8, low: u8) -> Option<u8>
 pub fn decode(heap: Global, text: &[u8]) -> Result<Option<Vec<u8>>, AllocError>
     ensures value { IfOk result (λ o. option_map vec_items o ≡ octets_of text.now) }
 {
-    if text.len() % 2 != 0 {
+    let (pairs, []) = text.as_chunks::<2>() else {
         return Ok(None);
-    }
-    let mut octets = Vec::with_capacity(heap, text.len() / 2)?;
-    for k in 0..text.len() / 2 {
-        let Some(next) = octet(text[2 * k], text[2 * k + 1]) else {
+    };
+    let mut octets = Vec::with_capacity(heap, pairs.len())?;
+    for [high, low] in pairs {
+        let Some(next) = octet(*high, *low) else {
             return Ok(None);
         };
         octets.push(next)?;

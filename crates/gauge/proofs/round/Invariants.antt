@@ -1,5 +1,5 @@
-use Rattle.std.proofs.Common.{◌≤◌}
+use Rattle.std.proofs.Common.{◌<◌}
 use Rattle.gauge.proofs.round.Given as goal
 
-abbrev pub invariant-loop-i : goal.invariant-loop-i
-invariant-loop-i g l = l.whole ≤ l.i
+abbrev pub invariant-loop-number : goal.invariant-loop-number
+invariant-loop-number g l = l.whole < l.number

@@ -1,23 +1,31 @@
-use Rattle.std.proofs.Common.{◌≡◌, ◌+◌, ◌*◌, [], ◌∷◌, ◌++◌, drop, vec_items, refl, ap, ◌∙◌, arith, rules}
+use Rattle.std.proofs.Common.{◌≡◌, ◌+◌, ◌/◌, [], ◌∷◌, ◌++◌, length, drop, vec_items, ap, ◌∙◌, arith, rules}
 use Rattle.hexadecimal.specs.Digits.{octets_of}
-use Rattle.hexadecimal.proofs.Steps.{prefixed, good_octet, no_octet, no_more, odd_text}
+use Rattle.hexadecimal.proofs.Steps.{prefixed, octets_of_pairs, paired, prefixed_none, good_octet, no_octet, no_more, odd_text}
 use Rattle.hexadecimal.proofs.decode.Goals as goal
 
-pub returns-then-text-ne0 : goal.returns-then-text-ne0
-returns-then-text-ne0 c = record { value = odd_text c.args.text.now (omega arith) }
-
 pub returns-in_default : goal.returns-in_default
-returns-in_default c =
-    let k = c.loop-k.k in
-    record { value = no_octet (vec_items c.loop-k.octets) c.args.text.now (2 * k) (2 * (k + 1)) (omega arith) (omega arith) _ c.in_default.ensures refl ∙ c.loop-k.invariant }
+returns-in_default c = record { value = odd_text c.args.text.now (omega (arith, c.as_chunks.ensures)) }
 
-pub loop-k-preserved : goal.loop-k-preserved
-loop-k-preserved c =
-    let k = c.loop-k.k in
-    let items : vec_items c.push.new.self ≡ vec_items c.loop-k.octets ++ c.in-Some.next ∷ [] = search rules in
-    ap (λ ys. prefixed ys (octets_of (drop (2 * (k + 1)) c.args.text.now))) items
-    ∙ good_octet (vec_items c.loop-k.octets) c.args.text.now (2 * k) (2 * (k + 1)) (omega arith) (omega arith) _ c.in-Some.ensures _ refl
-    ∙ c.loop-k.invariant
+pub loop-high-init : goal.loop-high-init
+loop-high-init c =
+    let n = length c.args.text.now / 2 in
+    let whole : length c.args.text.now ≡ n + n = omega (arith, c.in_default-empty.len_below, c.as_chunks.ensures.back_len) in
+    let none : vec_items c.in_ok-octets.octets ≡ [] = search rules in
+    ap (λ ys. prefixed ys (octets_of_pairs c.as_chunks.result.0.now)) none
+    ∙ ap (λ ps. prefixed [] (octets_of_pairs ps)) c.as_chunks.ensures.front
+    ∙ ap (prefixed []) (paired n c.args.text.now whole)
+    ∙ prefixed_none (octets_of c.args.text.now)
+
+pub returns-in_default-octet : goal.returns-in_default-octet
+returns-in_default-octet c =
+    record { value = no_octet (vec_items c.loop-high.octets) _ c.loop-high.high-index c.loop-high-test.true _ c.octet.ensures c.in_default-octet.is ∙ c.loop-high.invariant }
+
+pub loop-high-preserved : goal.loop-high-preserved
+loop-high-preserved c =
+    let items : vec_items c.push.new.self ≡ vec_items c.loop-high.octets ++ c.in-Some.next ∷ [] = search rules in
+    ap (λ ys. prefixed ys (octets_of_pairs (drop (c.loop-high.high-index + 1) c.as_chunks.result.0.now))) items
+    ∙ good_octet (vec_items c.loop-high.octets) _ c.loop-high.high-index c.loop-high-test.true _ c.octet.ensures c.in-Some.next c.in-Some.is
+    ∙ c.loop-high.invariant
 
 pub returns : goal.returns
-returns c = record { value = no_more (vec_items c.loop-k.octets) c.args.text.now (2 * c.loop-k.k) (omega arith) ∙ c.loop-k.invariant }
+returns c = record { value = no_more (vec_items c.loop-high.octets) _ c.loop-high.high-index (omega (arith, c.loop-high-test.false)) ∙ c.loop-high.invariant }
