@@ -1,6 +1,6 @@
 -- A sender is made, enrols destinations, and fills and submits drafts.
-use Rattle.std.specs.Prelude.{ℕ, ◌+◌, ◌-◌, Bool, true, cond, not, ◌&&◌, ◌||◌, List, [], ◌∷◌, ◌++◌, map, length, replicate, Some, None, Ok, Err, Option, Result, ◌==◌, nat_lt, slice_set}
-use Rattle.std.specs.Option.{option_map, unwrap_or}
+use Rattle.std.specs.Prelude.{ℕ, ◌+◌, ◌-◌, Bool, true, cond, not, ◌||◌, List, [], ◌∷◌, ◌++◌, map, length, replicate, Some, None, Ok, Err, Option, Result, ◌==◌, nat_lt, slice_set}
+use Rattle.std.specs.Option.{is_none, option_map, unwrap_or}
 use Rattle.protocol.specs.Causes.{Cause}
 use Rattle.protocol.specs.Limits.{row_count, roster_count, most_numbers, last_identity}
 use Rattle.protocol.specs.Times.{first_wait}
@@ -8,7 +8,7 @@ use Rattle.parts.specs.Numbers.{set_of, up_to}
 use Rattle.parts.specs.Places.{first_place}
 use Rattle.contents.specs.Contents.{empty_store, with_string}
 use Rattle.rules.specs.declared.answers.Standing.TheVariants.{Waiting as Open}
-use Rattle.rules.specs.declared.sender.Place.{Place}
+use Rattle.rules.specs.declared.sender.Enrolled.{Enrolled}
 use Rattle.rules.specs.declared.sender.Destination.{Destination}
 use Rattle.rules.specs.declared.sender.Message.{Message}
 use Rattle.rules.specs.declared.sender.SenderRow.{SenderRow}
@@ -18,7 +18,7 @@ use Rattle.rules.specs.Lists.{first_of}
 use Rattle.rules.specs.Marks.{listed}
 use Rattle.rules.specs.Outcomes.{Outcome, refuse, accept, reached}
 use Rattle.rules.specs.Refusals.{Refusal, by_store, expired, no_row, unknown, bad_identity, bad_list, bad_count}
-use Rattle.rules.specs.SenderState.{SenderModel, with_roster, with_rows, with_table, with_row_freed, no_place, is_place_of, place_of, is_enrolled, switched_at, is_vacant, draft_row, fragments_at, no_destination}
+use Rattle.rules.specs.SenderState.{SenderModel, Roster, with_roster, with_rows, with_table, with_row_freed, no_place, is_place_of, place_of, is_enrolled, switched_at, is_vacant, draft_row, fragments_at, no_destination}
 use Rattle.rules.specs.Stores.{no_room}
 
 -- == making ==
@@ -38,8 +38,8 @@ make_sender source first width limit = cond (first == 0) (Err (bad_identity 0)) 
 -- == enrol ==
 
 -- a destination is answering at first, with no message submitted to it
-abbrev pub new_place : ℕ → Place
-new_place destination = record { destination = destination; enrolled = true; answering = true; submitted = 0 }
+abbrev pub new_place : ℕ → Option Enrolled
+new_place destination = Some (record { destination = destination; answering = true; submitted = 0 })
 
 -- into a free place, unless the destination has one already
 abbrev pub enrol_at : SenderModel → ℕ → (free taken : Option ℕ) → Outcome SenderModel (Unit {0})
@@ -49,7 +49,7 @@ enrol_at s destination (Some k) None = accept (with_table s (with_roster s.table
 
 -- Enrol adds a destination to the roster. A full roster is told first, then the place that the destination has already.
 unfoldable pub sender_enrol : SenderModel → ℕ → Outcome SenderModel (Unit {0})
-sender_enrol s destination = enrol_at s destination (first_place (λ p. not p.enrolled) s.table.roster) (place_of s.table.roster destination)
+sender_enrol s destination = enrol_at s destination (first_place is_none s.table.roster) (place_of s.table.roster destination)
 
 -- == silence ==
 
@@ -127,38 +127,43 @@ is_above None d = true
 is_above (Some before) d = nat_lt before d
 
 -- the lowest place of a list that is unenrolled or not above the one before it, the list going on at a place
-unfoldable pub bad_place : List Place → (place : ℕ) → Option ℕ → List ℕ → Option ℕ
+unfoldable pub bad_place : Roster → (place : ℕ) → Option ℕ → List ℕ → Option ℕ
 bad_place roster place before [] = None
 bad_place roster place before (d ∷ ds) =
     cond (not (is_enrolled roster d) || not (is_above before d)) (Some place) (bad_place roster (place + 1) (Some d) ds)
 
 -- Why a list of destinations is refused: it is empty, or over 16, or its lowest bad place.
-unfoldable pub list_fault : List Place → List ℕ → Option ℕ
+unfoldable pub list_fault : Roster → List ℕ → Option ℕ
 list_fault roster [] = Some 0
 list_fault roster (d ∷ ds) = cond (nat_lt roster_count (length (d ∷ ds))) (Some roster_count) (bad_place roster 0 None (d ∷ ds))
 
 -- one message more was submitted to this destination
-abbrev pub one_more : Place → Place
-one_more p = record { destination = p.destination; enrolled = p.enrolled; answering = p.answering; submitted = p.submitted + 1 }
+abbrev pub one_more : Enrolled → Enrolled
+one_more e = record { destination = e.destination; answering = e.answering; submitted = e.submitted + 1 }
 
 -- The roster counts one message more for each destination of a list.
-unfoldable pub counted_in : List Place → List ℕ → List Place
-counted_in roster ds = map (λ p. cond (p.enrolled && listed ds p.destination) (one_more p) p) roster
+unfoldable pub counted_in : Roster → List ℕ → Roster
+counted_in roster ds = map (option_map (λ e. cond (listed ds e.destination) (one_more e) e)) roster
+
+-- how many messages were submitted to the destination of a place
+abbrev pub submitted_at : Option Enrolled → ℕ
+submitted_at None = 0
+submitted_at (Some e) = e.submitted
 
 -- how many messages were submitted to a destination
-abbrev pub submitted_to : List Place → ℕ → ℕ
-submitted_to roster d = unwrap_or (option_map (λ p. p.submitted) (first_of (is_place_of d) roster)) 0
+abbrev pub submitted_to : Roster → ℕ → ℕ
+submitted_to roster d = unwrap_or (option_map submitted_at (first_of (is_place_of d) roster)) 0
 
 -- All numbers are missing at each destination; its sequence number is its count of submitted messages, this one too.
-abbrev pub new_destination : List Place → ℕ → ℕ → Destination
+abbrev pub new_destination : Roster → ℕ → ℕ → Destination
 new_destination roster total d = record { destination = d; sequence = submitted_to roster d + 1; standing = Open; missing = set_of (up_to total) }
 
 -- 16 places, of which the first are those of the list
-abbrev pub new_destinations : List Place → ℕ → List ℕ → List Destination
+abbrev pub new_destinations : Roster → ℕ → List ℕ → List Destination
 new_destinations roster total ds = map (new_destination roster total) ds ++ replicate (roster_count - length ds) no_destination
 
 -- what is submitted of a draft of so many fragments
-abbrev pub new_message : List Place → (identity total priority expiry : ℕ) → List ℕ → Message
+abbrev pub new_message : Roster → (identity total priority expiry : ℕ) → List ℕ → Message
 new_message roster identity total priority expiry ds = record {
   identity = identity;
   total = total;

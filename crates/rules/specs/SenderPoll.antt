@@ -8,14 +8,13 @@ use Rattle.parts.specs.declared.numbers.Numbers.{Numbers}
 use Rattle.parts.specs.Foremost.{foremost_of}
 use Rattle.parts.specs.Numbers.{excluding, next_from, set_of}
 use Rattle.contents.specs.Contents.{string_at}
-use Rattle.rules.specs.declared.sender.Place.{Place}
 use Rattle.rules.specs.declared.sender.Message.{Message}
 use Rattle.rules.specs.declared.sender.SenderRow.{SenderRow}
 use Rattle.rules.specs.declared.sender.SenderRow.TheVariants.{Vacant, Draft, Sending, Waiting, Ending, Closing, Ended}
 use Rattle.rules.specs.Lists.{ranks_before}
 use Rattle.rules.specs.Outcomes.{Outcome, refuse, accept}
 use Rattle.rules.specs.Refusals.{by_wire, nothing}
-use Rattle.rules.specs.SenderState.{SenderModel, row_at, with_row_at, with_row_freed, message_of, open_of, open_answering}
+use Rattle.rules.specs.SenderState.{Roster, SenderModel, row_at, with_row_at, with_row_freed, message_of, open_of, open_answering}
 
 -- no number is in a set
 abbrev pub is_none : Numbers → Bool
@@ -69,16 +68,16 @@ pdu_for s i (Closing m) = discard_octets m.priority s.table.source m.identity
 pdu_for s i (Ended m) = []
 
 -- how long a row waits when its last due PDU is written
-abbrev pub wait_for : List Place → Message → ℕ → ℕ
+abbrev pub wait_for : Roster → Message → ℕ → ℕ
 wait_for roster m wait = cond (nat_lt 0 (length (open_answering roster m))) wait silent_wait
 
 -- A sending row with nothing left due is waiting.
-abbrev pub sending_on : List Place → (now : ℕ) → Message → Numbers → (wait rounds : ℕ) → SenderRow
+abbrev pub sending_on : Roster → (now : ℕ) → Message → Numbers → (wait rounds : ℕ) → SenderRow
 sending_on roster now m due wait rounds =
     cond (is_none due) (Waiting m (now + wait_for roster m wait) wait rounds) (Sending m false due wait rounds)
 
 -- a row after the PDU that it had due was written
-unfoldable pub row_polled : List Place → (now : ℕ) → SenderRow → SenderRow
+unfoldable pub row_polled : Roster → (now : ℕ) → SenderRow → SenderRow
 row_polled roster now Vacant = Vacant
 row_polled roster now (Draft i n) = Draft i n
 row_polled roster now (Sending m true due wait rounds) = sending_on roster now m due wait rounds

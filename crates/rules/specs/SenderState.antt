@@ -1,13 +1,13 @@
 -- How a sender stands, and the parts of it that its rules speak of.
 use Rattle.std.specs.Prelude.{ℕ, Bool, true, false, cond, ◌&&◌, List, ◌++◌, map, take, drop, is_some, Some, None, Option, ◌==◌, slice_index_or, slice_set}
-use Rattle.std.specs.Option.{unwrap_or}
+use Rattle.std.specs.Option.{option_map, unwrap_or}
 use Rattle.parts.specs.declared.numbers.Numbers.{Numbers}
 use Rattle.parts.specs.Numbers.{none, set_of}
 use Rattle.parts.specs.Places.{first_place}
 use Rattle.contents.specs.Contents.{Contents}
 use Rattle.rules.specs.declared.answers.Standing.{Standing}
 use Rattle.rules.specs.declared.answers.Standing.TheVariants.{Waiting as Open, Complete, Expired as Lapsed}
-use Rattle.rules.specs.declared.sender.Place.{Place}
+use Rattle.rules.specs.declared.sender.Enrolled.{Enrolled}
 use Rattle.rules.specs.declared.sender.Destination.{Destination}
 use Rattle.rules.specs.declared.sender.Message.{Message}
 use Rattle.rules.specs.declared.sender.SenderRow.{SenderRow}
@@ -21,9 +21,13 @@ pub record SenderModel : Type 0 where
   pub table : SenderTable
   pub held : Contents
 
+-- Each place of a roster is free, or that of an enrolled destination.
+abbrev pub Roster : Type 0
+Roster = List (Option Enrolled)
+
 -- == values with one part changed ==
 
-abbrev pub with_roster : SenderTable → List Place → SenderTable
+abbrev pub with_roster : SenderTable → Roster → SenderTable
 with_roster t roster = record { source = t.source; next = t.next; now = t.now; roster = roster; rows = t.rows }
 
 abbrev pub with_rows : SenderTable → List SenderRow → SenderTable
@@ -46,31 +50,37 @@ with_row_freed s i row = record { table = with_rows s.table (slice_set s.table.r
 -- == the roster ==
 
 -- a place that is free, and what a read past the end of the roster would give
-abbrev pub no_place : Place
-no_place = record { destination = 0; enrolled = false; answering = false; submitted = 0 }
+abbrev pub no_place : Option Enrolled
+no_place = None
 
--- whether a place is that of an enrolled destination
-abbrev pub is_place_of : ℕ → Place → Bool
-is_place_of destination p = p.enrolled && p.destination == destination
+-- whether a place is that of a destination
+abbrev pub is_place_of : ℕ → Option Enrolled → Bool
+is_place_of destination None = false
+is_place_of destination (Some e) = e.destination == destination
 
 -- the place of an enrolled destination
-unfoldable pub place_of : List Place → ℕ → Option ℕ
+unfoldable pub place_of : Roster → ℕ → Option ℕ
 place_of roster destination = first_place (is_place_of destination) roster
 
 -- whether a destination is enrolled
-abbrev pub is_enrolled : List Place → ℕ → Bool
+abbrev pub is_enrolled : Roster → ℕ → Bool
 is_enrolled roster destination = is_some (place_of roster destination)
 
+-- whether a place is that of a destination that is answering
+abbrev pub answers_as : ℕ → Option Enrolled → Bool
+answers_as destination None = false
+answers_as destination (Some e) = e.destination == destination && e.answering
+
 -- whether a destination is enrolled and answering
-unfoldable pub is_answering : List Place → ℕ → Bool
-is_answering roster destination = any_of (λ p. is_place_of destination p && p.answering) roster
+unfoldable pub is_answering : Roster → ℕ → Bool
+is_answering roster destination = any_of (answers_as destination) roster
 
 -- a place switched to answering or silent
-abbrev pub switched : Bool → Place → Place
-switched answering p = record { destination = p.destination; enrolled = p.enrolled; answering = answering; submitted = p.submitted }
+abbrev pub switched : Bool → Option Enrolled → Option Enrolled
+switched answering = option_map (λ e. record { destination = e.destination; answering = answering; submitted = e.submitted })
 
 -- the roster with the place of a destination switched, if it has one
-abbrev pub switched_at : List Place → Bool → Option ℕ → List Place
+abbrev pub switched_at : Roster → Bool → Option ℕ → Roster
 switched_at roster answering None = roster
 switched_at roster answering (Some k) = slice_set roster k (switched answering (slice_index_or roster k no_place))
 
@@ -182,5 +192,5 @@ abbrev pub open_of : Message → List Destination
 open_of m = those is_open (destinations_of m)
 
 -- the open destinations that are answering
-abbrev pub open_answering : List Place → Message → List Destination
+abbrev pub open_answering : Roster → Message → List Destination
 open_answering roster m = those (λ d. is_answering roster d.destination) (open_of m)

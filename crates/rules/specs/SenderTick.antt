@@ -4,7 +4,6 @@ use Rattle.protocol.specs.Times.{longest_wait, silent_rounds}
 use Rattle.parts.specs.declared.numbers.Numbers.{Numbers}
 use Rattle.parts.specs.Numbers.{has, set_of}
 use Rattle.rules.specs.declared.answers.Standing.TheVariants.{Expired as Lapsed}
-use Rattle.rules.specs.declared.sender.Place.{Place}
 use Rattle.rules.specs.declared.sender.Destination.{Destination}
 use Rattle.rules.specs.declared.sender.Message.{Message}
 use Rattle.rules.specs.declared.sender.SenderRow.{SenderRow}
@@ -12,7 +11,7 @@ use Rattle.rules.specs.declared.sender.SenderRow.TheVariants.{Vacant, Draft, Sen
 use Rattle.rules.specs.Lists.{any_of}
 use Rattle.rules.specs.Outcomes.{Outcome, refuse, accept, is_clock, reached}
 use Rattle.rules.specs.Refusals.{bad_clock}
-use Rattle.rules.specs.SenderState.{SenderModel, with_each, with_standing, is_open, open_of, open_answering}
+use Rattle.rules.specs.SenderState.{Roster, SenderModel, with_each, with_standing, is_open, open_of, open_answering}
 use Rattle.rules.specs.Stores.{freed_where}
 
 -- The wait grows to the whole part of three halves of it, up to the longest.
@@ -25,7 +24,7 @@ missing_at_any ds = set_of (λ n. any_of (λ d. has d.missing n) ds)
 
 -- At a waiting deadline: Address and what is missing at the open answering destinations become due, and the wait grows.
 -- With none of them the same is done for the silent ones, a few times, and the wait stays.
-unfoldable pub resent : List Place → Message → (deadline wait rounds : ℕ) → SenderRow
+unfoldable pub resent : Roster → Message → (deadline wait rounds : ℕ) → SenderRow
 resent roster m deadline wait rounds =
     cond (nat_lt 0 (length (open_answering roster m))) (Sending m true (missing_at_any (open_answering roster m)) (longer wait) rounds)
     (cond (nat_lt rounds silent_rounds) (Sending m true (missing_at_any (open_of m)) wait (rounds + 1))
@@ -47,7 +46,7 @@ ends_at clock (Closing m) = false
 ends_at clock (Ended m) = false
 
 -- One step for each row and tick: expiry first, then the deadline. A spent ending deadline makes the Address due.
-unfoldable pub row_ticked : List Place → (clock : ℕ) → SenderRow → SenderRow
+unfoldable pub row_ticked : Roster → (clock : ℕ) → SenderRow → SenderRow
 row_ticked roster clock Vacant = Vacant
 row_ticked roster clock (Draft i n) = Draft i n
 row_ticked roster clock (Sending m address due wait rounds) =

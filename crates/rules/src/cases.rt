@@ -4,6 +4,8 @@ ghost use Rattle.rules.specs.Cases.{Edges, example_waits, left_after_again, left
 ghost use Rattle.rules.specs.Slips.{CompleteStays, RecordsStay, AboveLastStays};
 ghost use Rattle.pdu.specs.Examples.{example_checksums};
 
+use pdu::example_checksums;
+
 pub struct Worked {
     // of a Discard, Data with "Hi", Data with "H", an Address and an ACK
     pub checksums: [u16; 5],
@@ -35,7 +37,7 @@ pub fn worked_cases() -> Worked
     ensures above { AboveLastStays }
 {
     Worked {
-        checksums: [0xCF57, 0x86EE, 0x8758, 0x78DB, 0xC544],
+        checksums: example_checksums(),
         after_again: [1],
         after_ring: [3, 5],
         waits: growing_waits(),

@@ -2,11 +2,10 @@
 use crate::answers::Standing;
 use parts::numbers::Numbers;
 
-// One place of the roster.
+// An enrolled destination.
 #[derive(Clone, Copy)]
-pub struct Place {
+pub struct Enrolled {
     pub destination: u32,
-    pub enrolled: bool,
     pub answering: bool,
     // how many messages were submitted to it
     pub submitted: u32,
@@ -21,7 +20,7 @@ pub struct Destination {
     pub missing: Numbers,
 }
 
-// What was submitted: of the destinations the first `count` are given.
+// What was submitted: of the destinations the first `count` are given. They lie in the row itself, since an end has no heap.
 #[derive(Clone, Copy)]
 pub struct Message {
     pub identity: u32,
@@ -73,9 +72,9 @@ pub enum SenderRow {
 #[derive(Clone, Copy)]
 pub struct SenderTable {
     pub source: u32,
-    // the identity of the next draft; one above the last identity if none is left
+    // the identity of the next draft; one above the last identity if none is left, so that the rules only add and compare
     pub next: u64,
     pub now: u64,
-    pub roster: [Place; 16],
+    pub roster: [Option<Enrolled>; 16],
     pub rows: [SenderRow; 8],
 }

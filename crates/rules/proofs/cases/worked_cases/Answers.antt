@@ -12,7 +12,7 @@ use Rattle.rules.proofs.cases.worked_cases.Goals as goal
 pub returns : goal.returns
 unfolding greatest rising_from tally holds word_of words_of has set_of marked list_for first_from first_place new_table new_sender sender_begin
 returns c = record {
-  checksums = refl;
+  checksums = c.example_checksums.ensures.table;
   again = refl;
   ring = refl;
   waits = c.growing_waits.ensures;
