@@ -1,5 +1,5 @@
 -- The types of PDUs, the sizes of their parts, and which end takes which type.
-use Rattle.std.specs.Prelude.{ℕ, ◌+◌, ◌-◌, ◌/◌, Bool, ◌||◌, ◌==◌}
+use Rattle.std.specs.Prelude.{ℕ, ◌+◌, ◌-◌, ◌/◌, Bool, ◌||◌, List, ◌==◌, codes}
 use Rattle.protocol.specs.Limits.{longest}
 use Rattle.pdu.specs.declared.Accepts.{Accepts}
 use Rattle.pdu.specs.declared.Accepts.TheVariants.{Sender, Receiver}
@@ -54,3 +54,8 @@ most_destinations = (longest - address_head) / destination_size
 
 abbrev pub longest_list : ℕ
 longest_list = (longest - (ack_head + entry_head)) / 2
+
+-- how an end is called in a text
+abbrev pub name_of : Accepts → List ℕ
+name_of Sender = codes "sender"
+name_of Receiver = codes "receiver"

@@ -2,14 +2,28 @@
 // and proofs/ has what follows of these definitions alone. The crate `wire` reads and writes them.
 #![tactic(auto)]
 
-ghost use Rattle.std.specs.Prelude.{◌≡◌};
+ghost use Rattle.std.specs.Prelude.{◌≡◌, Some};
 ghost use Rattle.pdu.specs.Examples.{example_checksums};
+ghost use Rattle.pdu.specs.Types.{name_of};
+
+use std::fmt;
 
 // Which end reads. A sender takes ACKs; a receiver takes Data, Address, Extra_Address and Discard.
 #[derive(Clone, Copy, Debug, PartialEq, Eq)]
 pub enum Accepts {
     Sender,
     Receiver,
+}
+
+impl fmt::Display for Accepts {
+    ghost output = { λ end. Some (name_of end) };
+
+    fn fmt<W: fmt::Write>(&self, f: &mut fmt::Formatter<W>) -> fmt::Result {
+        f.write_str(match self {
+            Accepts::Sender => "sender",
+            Accepts::Receiver => "receiver",
+        })
+    }
 }
 
 // The Checksums of five worked examples: a Discard, Data with "Hi", Data with "H", an Address and an ACK.
