@@ -1,254 +1,195 @@
 // What a datagram says, in words.
 use pdu::Accepts;
-use wire::{Ack, Address, Data, Discard, Entries, Entry, Pdu, WireFault, read};
+use std::fmt;
+use wire::{Ack, Address, Data, Entry, Kind, Pdu, WireFault, read};
+
+// A datagram on a line of input, as the end that the line names reads it.
+#[derive(Clone, Copy)]
+pub struct Report<'a> {
+    pub line: u64,
+    pub end: Accepts,
+    pub octets: &'a [u8],
+}
+
+impl fmt::Display for Report<'_> {
+    fn fmt<W: fmt::Write>(&self, f: &mut fmt::Formatter<W>) -> fmt::Result {
+        match read(self.end, self.octets) {
+            Ok(pdu) => self.write_pdu(f, &pdu),
+            Err(fault) => self.write_fault(f, fault),
+        }
+    }
+}
+
+impl Report<'_> {
+    fn write_fault<W: fmt::Write>(
+        &self,
+        f: &mut fmt::Formatter<W>,
+        fault: WireFault,
+    ) -> fmt::Result {
+        let Report {
+            line,
+            end,
+            ..
+        } = self;
+        let number = fault.number();
+        write!(f, "line {line}: {end} refuses with {number}: ")?;
+        match fault {
+            WireFault::Size { length } => writeln!(f, "{length} octets, not 16 to 1472"),
+            WireFault::Length { field, length } => {
+                writeln!(f, "length field {field}, datagram of {length} octets")
+            }
+            WireFault::Checksum { field, sum } => {
+                writeln!(f, "checksum field {field:04X}, sum {sum:04X}")
+            }
+            WireFault::PduType { number } => writeln!(f, "type {number:02X} is not for a {end}"),
+            WireFault::Field { place } => writeln!(f, "the field at octet {place} breaks its rule"),
+            WireFault::Buffer { needed } => writeln!(f, "a buffer of {needed} octets is needed"),
+        }
+    }
+
+    fn write_pdu<W: fmt::Write>(&self, f: &mut fmt::Formatter<W>, pdu: &Pdu<'_>) -> fmt::Result {
+        let Report {
+            line,
+            end,
+            octets,
+        } = self;
+        let kind = kind_of(pdu);
+        let length = octets.len();
+        writeln!(f, "line {line}: {end} reads {kind}, {length} octets")?;
+        write_head(f, octets, pdu)?;
+        match pdu {
+            Pdu::Data(data) => write_data(f, data),
+            Pdu::Address(address) => write_address(f, address),
+            Pdu::Discard(discard) => write_message(f, discard.source, discard.message),
+            Pdu::Ack(ack) => write_ack(f, ack, length),
+        }
+    }
+}
+
+fn kind_of(pdu: &Pdu<'_>) -> Kind {
+    match pdu {
+        Pdu::Data(_) => Kind::Data,
+        Pdu::Address(address) => address.kind,
+        Pdu::Discard(_) => Kind::Discard,
+        Pdu::Ack(_) => Kind::Ack,
+    }
+}
+
+// What the field at octet 4 is called.
+fn field_of(pdu: &Pdu<'_>) -> &'static str {
+    match pdu {
+        Pdu::Data(_) => "number",
+        Pdu::Address(_) => "total",
+        Pdu::Discard(_) | Pdu::Ack(_) => "unused",
+    }
+}
 
 // The fields that every PDU opens with.
-#[derive(Clone, Copy)]
-struct Header {
-    length: u16,
-    priority: u8,
-    kind: u8,
-    field: u16,
-    checksum: u16,
-}
-
-fn header_of(datagram: &[u8]) -> Option<Header> {
-    let [l0, l1, priority, kind, f0, f1, c0, c1, ..] = datagram else {
-        return None;
-    };
-    Some(Header {
-        length: u16::from_be_bytes([*l0, *l1]),
-        priority: *priority,
-        kind: *kind % 64,
-        field: u16::from_be_bytes([*f0, *f1]),
-        checksum: u16::from_be_bytes([*c0, *c1]),
-    })
-}
-
-fn name_of(end: Accepts) -> &'static str {
-    match end {
-        Accepts::Sender => "sender",
-        Accepts::Receiver => "receiver",
-    }
-}
-
-pub fn print_datagram(
-    rt: &HostRuntime,
-    line: u64,
-    end: Accepts,
-    datagram: &[u8],
-) -> anyhow::Result<()> {
-    let name = name_of(end);
-    match read(end, datagram) {
-        Ok(pdu) => print_pdu(rt, line, name, datagram, &pdu),
-        Err(fault) => print_fault(rt, line, name, fault),
-    }
-}
-
-fn print_fault(rt: &HostRuntime, line: u64, name: &str, fault: WireFault) -> anyhow::Result<()> {
-    let number = fault.number();
-    print!(rt; "line {line}: {name} refuses with {number}: ")?;
-    match fault {
-        WireFault::Size { length } => println!(rt; "{length} octets, not 16 to 1472")?,
-        WireFault::Length { field, length } => println!(rt;
-            "length field {field}, datagram of {length} octets"
-        )?,
-        WireFault::Checksum { field, sum } => println!(rt;
-            "checksum field {field:04X}, sum {sum:04X}"
-        )?,
-        WireFault::PduType { number } => println!(rt; "type {number:02X} is not for a {name}")?,
-        WireFault::Field { place } => println!(rt; "the field at octet {place} breaks its rule")?,
-        WireFault::Buffer { needed } => println!(rt; "a buffer of {needed} octets is needed")?,
-    }
-    Ok(())
-}
-
-fn kind_of(pdu: &Pdu<'_>) -> &'static str {
-    match pdu {
-        Pdu::Data(_) => "Data",
-        Pdu::Address(address) => {
-            if address.kind == 0x12 {
-                "Extra_Address"
-            } else {
-                "Address"
-            }
-        }
-        Pdu::Discard(_) => "Discard",
-        Pdu::Ack(_) => "ACK",
-    }
-}
-
-fn print_pdu(
-    rt: &HostRuntime,
-    line: u64,
-    name: &str,
-    datagram: &[u8],
+fn write_head<W: fmt::Write>(
+    f: &mut fmt::Formatter<W>,
+    octets: &[u8],
     pdu: &Pdu<'_>,
-) -> anyhow::Result<()> {
-    let Some(header) = header_of(datagram) else {
+) -> fmt::Result {
+    let [l0, l1, priority, _, f0, f1, c0, c1, ..] = *octets else {
         return Ok(());
     };
-    let kind = kind_of(pdu);
-    let length = datagram.len();
-    println!(rt; "line {line}: {name} reads {kind}, {length} octets")?;
-    let Header {
-        length,
-        priority,
-        ..
-    } = header;
-    println!(rt; "  0: length {length}")?;
-    println!(rt; "  2: priority {priority}")?;
-    match pdu {
-        Pdu::Data(data) => print_data(rt, &header, data),
-        Pdu::Address(address) => print_address(rt, &header, address),
-        Pdu::Discard(discard) => print_discard(rt, &header, discard),
-        Pdu::Ack(ack) => print_ack(rt, &header, ack, datagram.len()),
+    let length = u16::from_be_bytes([l0, l1]);
+    let number = u8::from(kind_of(pdu));
+    let name = field_of(pdu);
+    let field = u16::from_be_bytes([f0, f1]);
+    let checksum = u16::from_be_bytes([c0, c1]);
+    writeln!(f, "  0: length {length}")?;
+    writeln!(f, "  2: priority {priority}")?;
+    write!(f, "  3: type {number:02X}")?;
+    if let Pdu::Address(address) = pdu {
+        write!(f, ", MAP {}", address.part)?;
     }
+    writeln!(f)?;
+    writeln!(f, "  4: {name} {field}")?;
+    writeln!(f, "  6: checksum {checksum:04X}")
 }
 
-fn print_data(rt: &HostRuntime, header: &Header, data: &Data<'_>) -> anyhow::Result<()> {
-    let Header {
-        kind,
-        field,
-        checksum,
-        ..
-    } = *header;
-    let Data {
-        source,
-        message,
-        fragment,
-        ..
-    } = *data;
-    println!(rt; "  3: type {kind:02X}")?;
-    println!(rt; "  4: number {field}")?;
-    println!(rt; "  6: checksum {checksum:04X}")?;
-    println!(rt; "  8: source {source:08X}")?;
-    println!(rt; "  12: message {message:08X}")?;
-    let count = fragment.len();
-    print!(rt; "  16: fragment, {count} octets")?;
-    if !fragment.is_empty() {
-        print!(rt; ": ")?;
-    }
-    for octet in fragment {
-        print!(rt; "{octet:02X}")?;
-    }
-    println!(rt)?;
-    Ok(())
+// The two fields that name a message.
+fn write_message<W: fmt::Write>(
+    f: &mut fmt::Formatter<W>,
+    source: u32,
+    message: u32,
+) -> fmt::Result {
+    writeln!(f, "  8: source {source:08X}")?;
+    writeln!(f, "  12: message {message:08X}")
 }
 
-fn print_discard(rt: &HostRuntime, header: &Header, discard: &Discard) -> anyhow::Result<()> {
-    let Header {
-        kind,
-        field,
-        checksum,
-        ..
-    } = *header;
-    let Discard {
-        source,
-        message,
-        ..
-    } = *discard;
-    println!(rt; "  3: type {kind:02X}")?;
-    println!(rt; "  4: unused {field}")?;
-    println!(rt; "  6: checksum {checksum:04X}")?;
-    println!(rt; "  8: source {source:08X}")?;
-    println!(rt; "  12: message {message:08X}")?;
-    Ok(())
+fn write_data<W: fmt::Write>(f: &mut fmt::Formatter<W>, data: &Data<'_>) -> fmt::Result {
+    write_message(f, data.source, data.message)?;
+    let count = data.fragment.len();
+    write!(f, "  16: fragment, {count} octets")?;
+    if !data.fragment.is_empty() {
+        write!(f, ": ")?;
+    }
+    for octet in data.fragment {
+        write!(f, "{octet:02X}")?;
+    }
+    writeln!(f)
 }
 
-fn print_address(rt: &HostRuntime, header: &Header, address: &Address<'_>) -> anyhow::Result<()> {
-    let Header {
-        kind,
-        field,
-        checksum,
-        ..
-    } = *header;
+fn write_address<W: fmt::Write>(f: &mut fmt::Formatter<W>, address: &Address<'_>) -> fmt::Result {
     let Address {
-        part,
         source,
         message,
         expiry,
         destinations,
         ..
     } = *address;
-    println!(rt; "  3: type {kind:02X}, MAP {part}")?;
-    println!(rt; "  4: total {field}")?;
-    println!(rt; "  6: checksum {checksum:04X}")?;
-    println!(rt; "  8: source {source:08X}")?;
-    println!(rt; "  12: message {message:08X}")?;
-    println!(rt; "  16: expiry {expiry}")?;
-    let count = destinations.count;
-    let reserved = destinations.reserved;
-    println!(rt; "  20: destinations {count}")?;
-    println!(rt; "  22: reserved {reserved}")?;
-    for n in 0..count {
-        if let Some(d) = destinations.get(n) {
-            let place = d.place;
-            let destination = d.destination;
-            let sequence = d.sequence;
-            println!(rt; "  {place}: destination {destination:08X}, sequence number {sequence}")?;
-        }
+    write_message(f, source, message)?;
+    writeln!(f, "  16: expiry {expiry}")?;
+    writeln!(f, "  20: destinations {}", destinations.count)?;
+    writeln!(f, "  22: reserved {}", destinations.reserved)?;
+    for d in destinations {
+        let place = d.place;
+        let destination = d.destination;
+        let sequence = d.sequence;
+        writeln!(f, "  {place}: destination {destination:08X}, sequence number {sequence}")?;
     }
     Ok(())
 }
 
-fn print_ack(
-    rt: &HostRuntime,
-    header: &Header,
+fn write_ack<W: fmt::Write>(
+    f: &mut fmt::Formatter<W>,
     ack: &Ack<'_>,
     length: usize,
-) -> anyhow::Result<()> {
-    let Header {
-        kind,
-        field,
-        checksum,
-        ..
-    } = *header;
+) -> fmt::Result {
     let Ack {
         sender,
         entries,
         ..
     } = *ack;
-    println!(rt; "  3: type {kind:02X}")?;
-    println!(rt; "  4: unused {field}")?;
-    println!(rt; "  6: checksum {checksum:04X}")?;
-    println!(rt; "  8: ACK sender {sender:08X}")?;
-    let count = entries.count;
-    println!(rt; "  12: entries {count}")?;
-    let end = print_entries(rt, &entries)?;
+    writeln!(f, "  8: ACK sender {sender:08X}")?;
+    writeln!(f, "  12: entries {}", entries.count)?;
+    let mut end = 14;
+    for entry in entries {
+        end = write_entry(f, &entry)?;
+    }
     if end < length {
-        println!(rt; "  {end}: Time_Option, 8 octets")?;
+        writeln!(f, "  {end}: Time_Option, 8 octets")?;
     }
     Ok(())
 }
 
-// Prints every entry, and tells the place behind the last.
-fn print_entries(rt: &HostRuntime, entries: &Entries<'_>) -> anyhow::Result<usize> {
-    let mut end = 14;
-    for n in 0..entries.count {
-        if let Some(entry) = entries.get(n) {
-            end = print_entry(rt, &entry)?;
-        }
-    }
-    Ok(end)
-}
-
-// Prints one entry, and tells the place behind it.
-fn print_entry(rt: &HostRuntime, entry: &Entry<'_>) -> anyhow::Result<usize> {
+// Writes one entry, and tells the place behind it.
+fn write_entry<W: fmt::Write>(
+    f: &mut fmt::Formatter<W>,
+    entry: &Entry<'_>,
+) -> Result<usize, fmt::Error> {
     let place = entry.place;
     let size = entry.count().saturating_mul(2).saturating_add(10);
-    let source = entry.source;
-    let message = entry.message;
-    println!(rt; "  {place}: entry of {size} octets")?;
+    writeln!(f, "  {place}: entry of {size} octets")?;
     let at = place.saturating_add(2);
-    println!(rt; "  {at}: source {source:08X}")?;
+    writeln!(f, "  {at}: source {:08X}", entry.source)?;
     let at = place.saturating_add(6);
-    println!(rt; "  {at}: message {message:08X}")?;
-    for k in 0..entry.count() {
-        if let Some(number) = entry.number(k) {
-            let at = place.saturating_add(10).saturating_add(k.saturating_mul(2));
-            println!(rt; "  {at}: missing {number}")?;
-        }
+    writeln!(f, "  {at}: message {:08X}", entry.message)?;
+    let places = (place.saturating_add(10)..).step_by(2);
+    for (at, number) in places.zip(entry.numbers) {
+        writeln!(f, "  {at}: missing {number}")?;
     }
     Ok(place.saturating_add(size))
 }

@@ -2,12 +2,24 @@
 use pdu::Accepts;
 use std::alloc::{AllocError, Global};
 
+// A datagram, and the end that is to read it.
 #[derive(Drop)]
-pub enum Line {
-    // An empty line or a comment.
-    Passed,
-    Datagram(Accepts, Vec<u8>),
+pub struct Datagram {
+    pub end: Accepts,
+    pub octets: Vec<u8>,
+}
+
+// Why a line gives no datagram.
+#[derive(Drop)]
+pub enum LineError {
     Malformed,
+    Memory(AllocError),
+}
+
+impl From<AllocError> for LineError {
+    fn from(error: AllocError) -> LineError {
+        LineError::Memory(error)
+    }
 }
 
 // A line without its line feed, and without a carriage return before that.
@@ -19,39 +31,31 @@ fn trimmed(text: &[u8]) -> &[u8] {
     }
 }
 
-// What stands behind a word at the front of a line.
-fn behind<'a>(line: &'a [u8], word: &[u8]) -> Option<&'a [u8]> {
-    if line.len() < word.len() {
-        return None;
+// The datagram of a line; none in an empty line or a comment.
+pub fn parse(heap: Global, text: &[u8]) -> Result<Option<Datagram>, LineError> {
+    let line = trimmed(text);
+    if line.is_empty() || line.starts_with(b"#") {
+        return Ok(None);
     }
-    let (front, rest) = line.split_at(word.len());
-    if front == word { Some(rest) } else { None }
+    let (end, digits) = addressed(line).ok_or(LineError::Malformed)?;
+    let octets = octets_of(heap, digits)?.ok_or(LineError::Malformed)?;
+    Ok(Some(Datagram { end, octets }))
 }
 
-pub fn parse(heap: Global, text: &[u8]) -> Result<Line, AllocError> {
-    let line = trimmed(text);
-    if line.is_empty() || line[0] == b'#' {
-        return Ok(Line::Passed);
+// The end that a line names, and what stands behind one space.
+fn addressed(line: &[u8]) -> Option<(Accepts, &str)> {
+    match str::from_utf8(line).ok()?.split_once(' ')? {
+        ("sender", digits) => Some((Accepts::Sender, digits)),
+        ("receiver", digits) => Some((Accepts::Receiver, digits)),
+        _ => None,
     }
-    if let Some(octets) = behind(line, b"sender ") {
-        return datagram(heap, Accepts::Sender, octets);
-    }
-    if let Some(octets) = behind(line, b"receiver ") {
-        return datagram(heap, Accepts::Receiver, octets);
-    }
-    Ok(Line::Malformed)
 }
 
 // `-` stands for no octets; nothing at all is malformed.
-fn datagram(heap: Global, end: Accepts, text: &[u8]) -> Result<Line, AllocError> {
-    if text == b"-".as_slice() {
-        return Ok(Line::Datagram(end, Vec::new(heap)));
-    }
-    if text.is_empty() {
-        return Ok(Line::Malformed);
-    }
-    match hexadecimal::decode(heap, text)? {
-        Some(octets) => Ok(Line::Datagram(end, octets)),
-        None => Ok(Line::Malformed),
+fn octets_of(heap: Global, digits: &str) -> Result<Option<Vec<u8>>, AllocError> {
+    match digits {
+        "" => Ok(None),
+        "-" => Ok(Some(Vec::new(heap))),
+        _ => hexadecimal::decode(heap, digits.as_bytes()),
     }
 }

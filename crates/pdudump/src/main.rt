@@ -4,8 +4,8 @@
 mod dump;
 mod line;
 
-use dump::print_datagram;
-use line::{Line, parse};
+use dump::Report;
+use line::{LineError, parse};
 use std::io::{BufRead, BufReader};
 
 fn main(rt: HostRuntime) -> anyhow::Result<()> {
@@ -15,6 +15,7 @@ fn main(rt: HostRuntime) -> anyhow::Result<()> {
 fn run(rt: &HostRuntime) -> anyhow::Result<()> {
     let mut input = BufReader::new(rt.alloc(), rt.stdin())?;
     let mut text = Vec::new(rt.alloc());
+    // A count, since every loop must end.
     for number in 1..u64::MAX {
         text.clear();
         if input.read_until(b'\n', &mut text)? == 0 {
@@ -26,14 +27,23 @@ fn run(rt: &HostRuntime) -> anyhow::Result<()> {
 }
 
 fn print_line(rt: &HostRuntime, number: u64, text: &[u8]) -> anyhow::Result<()> {
-    match parse(rt.alloc(), text)? {
-        Line::Passed => Ok(()),
-        Line::Datagram(end, octets) => print_datagram(rt, number, end, &octets),
-        Line::Malformed => {
+    match parse(rt.alloc(), text) {
+        Ok(None) => Ok(()),
+        Ok(Some(datagram)) => {
+            let report = Report {
+                line: number,
+                end: datagram.end,
+                octets: &datagram.octets,
+            };
+            print!(rt; "{report}")?;
+            Ok(())
+        }
+        Err(LineError::Malformed) => {
             println!(rt;
                 "line {number}: not a datagram; expected 'sender' or 'receiver', one space, and octets in hexadecimal or '-'"
             )?;
             Ok(())
         }
+        Err(LineError::Memory(error)) => Err(error.into()),
     }
 }
