@@ -1,8 +1,11 @@
 // Going through the destinations of an Address.
-ghost use Rattle.std.specs.Prelude.{◌≡◌, ◌+◌, ◌≤◌, min, [], ◌∷◌, length, IfSome, MatchOption};
+ghost use Rattle.std.specs.Prelude.{◌≡◌, ◌+◌, ◌≤◌, min, List, [], ◌∷◌, length, IfSome, MatchOption};
+ghost use Rattle.std.specs.Iterator.{AlwaysYields, IsFinite, YieldsFirstBy, item_count};
 ghost use Rattle.std.specs.Option.{option_map};
 ghost use Rattle.std.specs.List.{slice_get};
 ghost use Rattle.pdu.specs.Octets.{quad};
+ghost use Rattle.pdu.specs.Read.{unrisen};
+ghost use Rattle.pdu.specs.Said;
 ghost use Rattle.pdu.specs.Types.{destination_size};
 ghost use Rattle.wire.specs.Views.{destination_in, destinations_in};
 
@@ -55,11 +58,36 @@ impl<'a> Destinations<'a> {
         ensures value { option_map destination_in result ≡ slice_get (destinations_in self.now) n }
     {
         let mut left = *self;
-        for _i in 0..n {
-            let (_, behind) = left.split_first()?;
-            left = behind;
-        }
-        let (first, _) = left.split_first()?;
+        left.nth(n.into())
+    }
+}
+
+impl Iterator for Destinations<'_> {
+    type Item = Destination;
+
+    ghost next_gives = { YieldsFirstBy destination_in destinations_in };
+
+    ghost remaining = { item_count destinations_in };
+
+    fn next(&mut self) -> Option<Destination> {
+        let (first, behind) = self.split_first()?;
+        *self = behind;
         Some(first)
     }
+}
+
+// The place of the first destination that is not above the one before it.
+pub(crate) fn first_unrisen<I: Iterator<Item = Destination>>(destinations: I) -> Option<usize>
+    requires can { I.can_next destinations }
+    requires ends { IsFinite (I.remaining destinations) }
+    ensures { (ds : List Said.Destination) → AlwaysYields I.next_gives destination_in destinations ds → result ≡ unrisen ds }
+{
+    let mut before: Option<u32> = None;
+    for d in destinations {
+        if before.is_some_and(|least| d.destination <= least) {
+            return Some(d.place);
+        }
+        before = Some(d.destination);
+    }
+    None
 }

@@ -1,14 +1,16 @@
 // Going through the entries of an ACK, and through the numbers of an entry.
-ghost use Rattle.std.specs.Prelude.{◌≡◌, ◌+◌, ◌-◌, ◌/◌, ◌^◌, ◌<◌, ◌≤◌, [], ◌∷◌, length, take, drop, IfSome, IfOk, MatchOption, MatchResult};
+ghost use Rattle.std.specs.Prelude.{◌≡◌, ◌+◌, ◌-◌, ◌*◌, ◌^◌, ◌<◌, ◌≤◌, [], ◌∷◌, length, take, drop, IfSome, IfOk, MatchOption};
+ghost use Rattle.std.specs.Iterator.{YieldsFirst, YieldsFirstBy, item_count};
 ghost use Rattle.std.specs.Option.{option_map};
 ghost use Rattle.std.specs.List.{slice_get};
 ghost use Rattle.pdu.specs.Octets.{word, quad, words_of};
-ghost use Rattle.pdu.specs.Read.{is_entry_length, entry_broken, lower, numbers_broken};
+ghost use Rattle.pdu.specs.Read.{is_entry_length, entry_broken, lower};
 ghost use Rattle.pdu.specs.Types.{entry_head};
-ghost use Rattle.wire.specs.Views.{entry_in, entries_in, entry_broken_in, broken_in, place_of};
+ghost use Rattle.wire.specs.Views.{entry_in, entries_in, entry_broken_in, broken_in, numbers_in, place_of};
 
-use crate::fields::{is_number, quad_at, word_at};
-use crate::views::{Entries, Entry};
+use crate::fields::{quad_at, word_at};
+use crate::views::{Entries, Entry, Numbers};
+use protocol::is_number;
 
 // So many octets of an entry stand before its numbers.
 pub(crate) const ENTRY_HEAD: usize = 10;
@@ -24,24 +26,9 @@ fn lower_of(a: Option<usize>, b: Option<usize>) -> Option<usize>
     ensures { result ≡ lower a b }
 {
     match (a, b) {
-        (Some(p), Some(q)) => { if q < p { Some(q) } else { Some(p) } }
-        (Some(p), None) => Some(p),
-        (None, q) => q,
+        (Some(p), Some(q)) => Some(p.min(q)),
+        (p, q) => p.or(q),
     }
-}
-
-// The place of the first of the listed numbers that is none, the first being at a place.
-fn numbers_broken(numbers: &[u8], place: usize) -> Option<usize>
-    requires { place + length numbers.now < 2 ^ 64 }
-    ensures { result ≡ numbers_broken place (words_of numbers.now) }
-{
-    for k in 0..words_in(numbers) {
-        let number = word_at(numbers, 2 * k);
-        if !is_number(number) {
-            return Some(place + 2 * k);
-        }
-    }
-    None
 }
 
 // An entry's length is 10 and twice the count of its numbers.
@@ -71,72 +58,55 @@ fn entry_length(datagram: &[u8], place: usize) -> Result<usize, usize>
 }
 
 // The entry of a length at a place of a datagram.
+#[tactic(auto, using(crate::proofs::Words::words_in_chunks))]
 fn entry_at(datagram: &[u8], place: usize, size: usize) -> Entry<'_>
     requires { (entry_head ≤ size) × (place + size ≤ length datagram.now) }
     ensures place { result.place ≡ place }
     ensures source { result.source ≡ quad datagram.now (place + 2) }
     ensures message { result.message ≡ quad datagram.now (place + 6) }
-    ensures numbers { result.numbers.now ≡ take (place + size - (place + entry_head)) (drop (place + entry_head) datagram.now) }
+    ensures numbers { numbers_in result.numbers ≡ words_of (take (size - entry_head) (drop (place + entry_head) datagram.now)) }
+    ensures count { entry_head + 2 * length result.numbers.octets.now ≤ size }
 {
+    let (octets, _) = datagram[place + ENTRY_HEAD..place + size].as_chunks();
     Entry {
         place,
         source: quad_at(datagram, place + 2),
         message: quad_at(datagram, place + 6),
-        numbers: &datagram[place + ENTRY_HEAD..place + size],
+        numbers: Numbers { octets },
     }
 }
 
-// How many numbers some octets hold.
-fn words_in(octets: &[u8]) -> usize
-    ensures { result ≡ length octets.now / 2 }
-{
-    octets.len() / 2
-}
-
 impl<'a> Entries<'a> {
-    // The first entry and the others behind it. Where no entry is left or none stands, the broken place, if there is one.
-    fn front(&self) -> Result<(Entry<'a>, Entries<'a>), Option<usize>>
-        ensures parts { MatchResult result (λ p. entries_in self.now ≡ entry_in p.0 ∷ entries_in p.1) (λ _. entries_in self.now ≡ []) }
-        ensures broken { MatchResult result (λ p. broken_in self.now ≡ lower (entry_broken_in p.0) (broken_in p.1)) (λ e. broken_in self.now ≡ e) }
-        ensures within { IfOk result (λ p. (p.1.count + 1 ≡ self.now.count) × (p.0.place + entry_head + length p.0.numbers.now < 2 ^ 64)) }
+    // The first entry and the others behind it.
+    pub fn split_first(&self) -> Option<(Entry<'a>, Entries<'a>)>
+        ensures parts { MatchOption result (entries_in self.now ≡ []) (λ p. entries_in self.now ≡ entry_in p.0 ∷ entries_in p.1) }
+        ensures count { IfSome result (λ p. p.1.count + 1 ≡ self.now.count) }
+        ensures broken { IfSome result (λ p. broken_in self.now ≡ lower (entry_broken_in p.0) (broken_in p.1)) }
+        ensures within { IfSome result (λ p. p.0.place + entry_head + 2 * length p.0.numbers.octets.now < 2 ^ 64) }
     {
-        if self.count == 0 {
-            return Err(self.rest_broken());
-        }
-        let length = match entry_length(self.datagram, self.place) {
-            Ok(length) => length,
-            Err(place) => return Err(Some(place)),
+        let count = self.count.checked_sub(1)?;
+        let Ok(length) = entry_length(self.datagram, self.place) else {
+            return None;
         };
         let first = entry_at(self.datagram, self.place, length);
         let rest = Entries {
             datagram: self.datagram,
             place: self.place + length,
-            count: self.count - 1,
+            count,
         };
-        Ok((first, rest))
+        Some((first, rest))
     }
 
-    // Behind the last entry nothing stands, or a Time_Option.
-    fn rest_broken(&self) -> Option<usize>
-        requires { self.now.count ≡ 0 }
+    // Where no entry is left, the broken place, if there is one. Behind the last entry nothing stands, or a Time_Option.
+    fn end_broken(&self) -> Option<usize>
+        requires { entries_in self.now ≡ [] }
         ensures { result ≡ broken_in self.now }
     {
+        if self.count > 0 {
+            return entry_length(self.datagram, self.place).err();
+        }
         let left = self.datagram.len().saturating_sub(self.place);
-        if left == 0 || left == TIME_OPTION {
-            return None;
-        }
-        Some(ACK_COUNT)
-    }
-
-    // The first entry and the others behind it.
-    pub fn split_first(&self) -> Option<(Entry<'a>, Entries<'a>)>
-        ensures parts { MatchOption result (entries_in self.now ≡ []) (λ p. entries_in self.now ≡ entry_in p.0 ∷ entries_in p.1) }
-        ensures count { IfSome result (λ p. p.1.count + 1 ≡ self.now.count) }
-    {
-        match self.front() {
-            Ok(parts) => Some(parts),
-            Err(_) => None,
-        }
+        (left != 0 && left != TIME_OPTION).then_some(ACK_COUNT)
     }
 
     // The lowest broken place of the entries and of what stands behind them.
@@ -145,18 +115,11 @@ impl<'a> Entries<'a> {
     {
         let mut left = *self;
         let mut lowest = None;
-        loop {
-            match left.front() {
-                Ok((first, behind)) => {
-                    lowest = lower_of(
-                        lowest,
-                        numbers_broken(first.numbers, first.place + ENTRY_HEAD),
-                    );
-                    left = behind;
-                }
-                Err(end) => return lower_of(lowest, end),
-            }
+        while let Some((first, behind)) = left.split_first() {
+            lowest = lower_of(lowest, first.broken());
+            left = behind;
         }
+        lower_of(lowest, left.end_broken())
     }
 
     // The entry n, counted from 0.
@@ -164,11 +127,20 @@ impl<'a> Entries<'a> {
         ensures value { option_map entry_in result ≡ slice_get (entries_in self.now) n }
     {
         let mut left = *self;
-        for _i in 0..n {
-            let (_, behind) = left.split_first()?;
-            left = behind;
-        }
-        let (first, _) = left.split_first()?;
+        left.nth(n.into())
+    }
+}
+
+impl<'a> Iterator for Entries<'a> {
+    type Item = Entry<'a>;
+
+    ghost next_gives = { YieldsFirstBy entry_in entries_in };
+
+    ghost remaining = { item_count entries_in };
+
+    fn next(&mut self) -> Option<Entry<'a>> {
+        let (first, behind) = self.split_first()?;
+        *self = behind;
         Some(first)
     }
 }
@@ -178,16 +150,38 @@ impl Entry<'_> {
     pub fn count(&self) -> usize
         ensures value { result ≡ length (entry_in self.now).numbers }
     {
-        words_in(self.numbers)
+        self.numbers.octets.len()
     }
 
     // The number k, counted from 0.
     pub fn number(&self, k: usize) -> Option<u16>
         ensures value { result ≡ slice_get (entry_in self.now).numbers k }
     {
-        if k >= self.count() {
-            return None;
-        }
-        Some(word_at(self.numbers, 2 * k))
+        let octets = self.numbers.octets.get(k)?;
+        Some(u16::from_be_bytes(*octets))
+    }
+
+    // The place of the first number that is none.
+    fn broken(&self) -> Option<usize>
+        requires { self.now.place + entry_head + 2 * length self.now.numbers.octets.now < 2 ^ 64 }
+        ensures { result ≡ entry_broken_in self.now }
+    {
+        let mut numbers = self.numbers;
+        let k = numbers.position(|number| !is_number(number))?;
+        Some(self.place + ENTRY_HEAD + 2 * k)
+    }
+}
+
+impl Iterator for Numbers<'_> {
+    type Item = u16;
+
+    ghost next_gives = { YieldsFirst numbers_in };
+
+    ghost remaining = { item_count numbers_in };
+
+    fn next(&mut self) -> Option<u16> {
+        let (first, behind) = self.octets.split_first()?;
+        self.octets = behind;
+        Some(u16::from_be_bytes(*first))
     }
 }

@@ -1,16 +1,21 @@
 // Big-endian numbers in a datagram.
-ghost use Rattle.std.specs.Prelude.{◌≡◌, ◌+◌, ◌<◌, length};
+ghost use Rattle.std.specs.Prelude.{◌≡◌, ◌+◌, ◌<◌, ◌≤◌, length, take, drop};
 ghost use Rattle.pdu.specs.Octets.{word, quad};
-ghost use Rattle.protocol.specs.Limits.{is_number};
 
-use protocol::NUMBERS;
+// The octets at a place.
+fn octets_at<const N: usize>(datagram: &[u8], place: usize) -> [u8; N]
+    requires { place + N ≤ length datagram.now }
+    ensures { result ≡ take N (drop place datagram.now) }
+{
+    *datagram[place..].first_chunk().unwrap()
+}
 
 // The number of two octets at a place.
 pub(crate) fn word_at(datagram: &[u8], place: usize) -> u16
     requires { place + 1 < length datagram.now }
     ensures { result ≡ word datagram.now place }
 {
-    datagram[place] as u16 * 256 + datagram[place + 1] as u16
+    u16::from_be_bytes(octets_at(datagram, place))
 }
 
 // The number of four octets at a place.
@@ -18,12 +23,5 @@ pub(crate) fn quad_at(datagram: &[u8], place: usize) -> u32
     requires { place + 3 < length datagram.now }
     ensures { result ≡ quad datagram.now place }
 {
-    word_at(datagram, place) as u32 * 65536 + word_at(datagram, place + 2) as u32
-}
-
-// Fragment numbers and totals lie in 1 to 256.
-pub(crate) fn is_number(number: u16) -> bool
-    ensures { result ≡ is_number number }
-{
-    number >= 1 && number <= NUMBERS
+    u32::from_be_bytes(octets_at(datagram, place))
 }

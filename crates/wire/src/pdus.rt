@@ -1,4 +1,5 @@
 // What a datagram says.
+use crate::kind::Kind;
 use crate::views::{Destinations, Entries};
 
 #[derive(Clone, Copy)]
@@ -10,11 +11,11 @@ pub struct Data<'a> {
     pub fragment: &'a [u8],
 }
 
-// An Address, or an Extra_Address if its type says so. `part` is 0 if this is the only part.
+// An Address, or an Extra_Address if its kind says so. `part` is 0 if this is the only part.
 #[derive(Clone, Copy)]
 pub struct Address<'a> {
     pub priority: u8,
-    pub kind: u8,
+    pub kind: Kind,
     pub part: u8,
     pub total: u16,
     pub source: u32,

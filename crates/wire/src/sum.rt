@@ -1,30 +1,21 @@
 // The Checksum of a PDU.
 ghost use Rattle.std.specs.Prelude.{◌≡◌, ◌≤◌, length};
-ghost use Rattle.pdu.specs.Sum.{carried, checksum_of, odd_word, word_sum};
+ghost use Rattle.pdu.specs.Sum.{carried, checksum_of, word_sum};
 ghost use Rattle.protocol.specs.Limits.{longest};
 
-// An odd last octet, followed by 0.
-fn odd_word(datagram: &[u8]) -> u32
-    ensures value { result ≡ odd_word datagram.now }
-    ensures bound { result ≤ 65535 }
-{
-    let n = datagram.len();
-    if n % 2 == 1 {
-        return datagram[n - 1] as u32 * 256;
-    }
-    0
-}
+use crate::fields::word_at;
 
-// The plain sum of the big-endian words; at most 1,472 octets cannot overflow it.
+// The plain sum of the big-endian words, an odd last octet being followed by 0; at most 1,472 octets cannot overflow it.
 fn summed(datagram: &[u8]) -> u32
     requires { length datagram.now ≤ longest }
     ensures { result ≡ word_sum datagram.now }
 {
-    let mut sum: u32 = 0;
-    for k in 0..datagram.len() / 2 {
-        sum += datagram[2 * k] as u32 * 256 + datagram[2 * k + 1] as u32;
+    let (words, odd) = datagram.as_chunks();
+    let mut sum = odd.first().map_or(0, |last| u32::from(*last) * 256);
+    for word in words {
+        sum += u32::from(u16::from_be_bytes(*word));
     }
-    sum + odd_word(datagram)
+    sum
 }
 
 // A sum with its carries added at the bottom.
@@ -40,6 +31,6 @@ pub(crate) fn checksum(datagram: &[u8]) -> u16
     requires { (8 ≤ length datagram.now) × (length datagram.now ≤ longest) }
     ensures { result ≡ checksum_of datagram.now }
 {
-    let field = datagram[6] as u32 * 256 + datagram[7] as u32;
-    65535 - folded(summed(datagram) - field)
+    let field = u32::from(word_at(datagram, 6));
+    !folded(summed(datagram) - field)
 }

@@ -25,11 +25,17 @@ pub struct Entries<'a> {
     pub count: u16,
 }
 
-// One entry of an ACK: the place where it stands, a message, and the octets of the numbers listed for it.
+// One entry of an ACK, and the place where it stands.
 #[derive(Clone, Copy)]
 pub struct Entry<'a> {
     pub place: usize,
     pub source: u32,
     pub message: u32,
-    pub(crate) numbers: &'a [u8],
+    pub numbers: Numbers<'a>,
+}
+
+// The numbers listed for an entry, of two octets each.
+#[derive(Clone, Copy)]
+pub struct Numbers<'a> {
+    pub(crate) octets: &'a [[u8; 2]],
 }

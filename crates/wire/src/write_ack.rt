@@ -8,15 +8,14 @@ ghost use Rattle.pdu.specs.Write.{ack_unfit, counted, fronted};
 ghost use Rattle.wire.specs.Faults.{causes};
 ghost use Rattle.wire.specs.Written.{octets_of_ack, ack_sent, new_ack_in};
 
-use crate::entries::ENTRY_HEAD;
-use crate::fault::WireFault;
-use crate::fields::is_number;
-use crate::head::ACK;
+use crate::entries::{ACK_COUNT, ENTRY_HEAD};
+use crate::fault::{WireFault, rule, unbroken};
+use crate::kind::Kind;
 use crate::pdus::NewAck;
-use crate::put::{put_head, put_numbers, put_quad, put_word, seal};
+use crate::put::{put, put_all, put_head, seal};
 use crate::reading::ACK_HEAD;
 use crate::writing::{Written, write_pdu};
-use protocol::LONGEST;
+use protocol::{LONGEST, is_number};
 
 // The numbers of the one entry stand here, and so many fit into the longest datagram.
 const NUMBERS_AT: usize = ACK_HEAD + ENTRY_HEAD;
@@ -28,13 +27,8 @@ fn broken_place(numbers: &[u16]) -> Option<usize>
     requires { length numbers.now ≤ longest_list }
     ensures { result ≡ numbers_broken (ack_head + entry_head) numbers.now }
 {
-    for k in 0..numbers.len() {
-        let number = numbers[k];
-        if !is_number(number) {
-            return Some(NUMBERS_AT + 2 * k);
-        }
-    }
-    None
+    let k = numbers.iter().position(|number| !is_number(*number))?;
+    Some(NUMBERS_AT + 2 * k)
 }
 
 impl Written for NewAck<'_> {
@@ -44,11 +38,9 @@ impl Written for NewAck<'_> {
 
     ghost back = { λ a xs. read_of Sender xs ≡ Ok (said_ack (new_ack_in a)) };
 
-    fn broken(&self) -> Option<usize> {
-        if self.numbers.len() > LONGEST_LIST {
-            return Some(0);
-        }
-        broken_place(self.numbers)
+    fn check(&self) -> Result<(), WireFault> {
+        rule(self.numbers.len() <= LONGEST_LIST, 0)?;
+        unbroken(broken_place(self.numbers))
     }
 
     fn size(&self) -> usize {
@@ -56,13 +48,17 @@ impl Written for NewAck<'_> {
     }
 
     fn fill(&self, size: usize, out: &mut [u8]) {
-        put_head(out, size as u16, self.priority, ACK, 0);
-        put_quad(out, 8, self.sender);
-        put_word(out, 12, 1);
-        put_word(out, ACK_HEAD, (ENTRY_HEAD + 2 * self.numbers.len()) as u16);
-        put_quad(out, 16, self.source);
-        put_quad(out, 20, self.message);
-        put_numbers(out, NUMBERS_AT, self.numbers);
+        put_head(out, size as u16, self.priority, Kind::Ack, 0);
+        put(out, 8, &self.sender);
+        put(out, ACK_COUNT, &1u16);
+        put(
+            out,
+            ACK_HEAD,
+            &((ENTRY_HEAD + 2 * self.numbers.len()) as u16),
+        );
+        put(out, 16, &self.source);
+        put(out, 20, &self.message);
+        put_all(out, NUMBERS_AT, self.numbers);
         seal(out, size);
     }
 }

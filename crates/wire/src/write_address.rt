@@ -8,15 +8,15 @@ ghost use Rattle.pdu.specs.Write.{address_unfit, counted, fronted, placed};
 ghost use Rattle.wire.specs.Faults.{causes};
 ghost use Rattle.wire.specs.Written.{pairs_of, octets_of_address, address_sent, new_address_in};
 
-use crate::destinations::DESTINATION_SIZE;
-use crate::fault::WireFault;
-use crate::fields::is_number;
-use crate::head::ADDRESS;
+use crate::destinations::{DESTINATION_SIZE, first_unrisen};
+use crate::fault::{WireFault, rule, unbroken};
+use crate::kind::Kind;
 use crate::pdus::{Addressee, NewAddress};
-use crate::put::{put_destinations, put_head, put_quad, put_word, seal};
+use crate::put::{put, put_all, put_head, seal};
 use crate::reading::ADDRESS_HEAD;
+use crate::views::Destination;
 use crate::writing::{Written, write_pdu};
-use protocol::LONGEST;
+use protocol::{LONGEST, is_number};
 
 // So many destinations fit into the longest datagram.
 const MOST_DESTINATIONS: usize = (LONGEST - ADDRESS_HEAD) / DESTINATION_SIZE;
@@ -26,18 +26,13 @@ fn unrisen_place(destinations: &[Addressee]) -> Option<usize>
     requires { length destinations.now ≤ most_destinations }
     ensures { result ≡ unrisen (placed address_head (pairs_of destinations.now)) }
 {
-    if destinations.is_empty() {
-        return None;
-    }
-    let mut before = destinations[0].destination;
-    for i in 1..destinations.len() {
-        let next = destinations[i].destination;
-        if next <= before {
-            return Some(ADDRESS_HEAD + DESTINATION_SIZE * i);
-        }
-        before = next;
-    }
-    None
+    first_unrisen(
+        destinations.iter().enumerate().map(|(i, d)| Destination {
+            place: ADDRESS_HEAD + DESTINATION_SIZE * i,
+            destination: d.destination,
+            sequence: d.sequence,
+        }),
+    )
 }
 
 impl Written for NewAddress<'_> {
@@ -47,14 +42,10 @@ impl Written for NewAddress<'_> {
 
     ghost back = { λ a xs. read_of Receiver xs ≡ Ok (said_address (new_address_in a)) };
 
-    fn broken(&self) -> Option<usize> {
-        if self.destinations.len() > MOST_DESTINATIONS {
-            return Some(0);
-        }
-        if !is_number(self.total) {
-            return Some(4);
-        }
-        unrisen_place(self.destinations)
+    fn check(&self) -> Result<(), WireFault> {
+        rule(self.destinations.len() <= MOST_DESTINATIONS, 0)?;
+        rule(is_number(self.total), 4)?;
+        unbroken(unrisen_place(self.destinations))
     }
 
     fn size(&self) -> usize {
@@ -62,13 +53,13 @@ impl Written for NewAddress<'_> {
     }
 
     fn fill(&self, size: usize, out: &mut [u8]) {
-        put_head(out, size as u16, self.priority, ADDRESS, self.total);
-        put_quad(out, 8, self.source);
-        put_quad(out, 12, self.message);
-        put_quad(out, 16, self.expiry);
-        put_word(out, 20, self.destinations.len() as u16);
-        put_word(out, 22, 0);
-        put_destinations(out, ADDRESS_HEAD, self.destinations);
+        put_head(out, size as u16, self.priority, Kind::Address, self.total);
+        put(out, 8, &self.source);
+        put(out, 12, &self.message);
+        put(out, 16, &self.expiry);
+        put(out, 20, &(self.destinations.len() as u16));
+        put(out, 22, &0u16);
+        put_all(out, ADDRESS_HEAD, self.destinations);
         seal(out, size);
     }
 }

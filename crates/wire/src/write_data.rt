@@ -8,13 +8,12 @@ ghost use Rattle.wire.specs.Faults.{causes};
 ghost use Rattle.wire.specs.Views.{data_in, discard_in};
 ghost use Rattle.wire.specs.Written.{octets_of_data, octets_of_discard, data_sent, discard_sent};
 
-use crate::fault::WireFault;
-use crate::fields::is_number;
-use crate::head::{DATA, DISCARD};
+use crate::fault::{WireFault, rule};
+use crate::kind::Kind;
 use crate::pdus::{Data, Discard};
-use crate::put::{put, put_head, put_quad, seal};
+use crate::put::{put, put_head, put_octets, seal};
 use crate::writing::{Written, write_pdu};
-use protocol::{LONGEST, SHORTEST};
+use protocol::{LONGEST, SHORTEST, is_number};
 
 impl Written for Data<'_> {
     ghost unfit = { λ d. data_unfit d.number d.fragment.now };
@@ -23,14 +22,9 @@ impl Written for Data<'_> {
 
     ghost back = { λ d xs. read_of Receiver xs ≡ Ok (said_data (data_in d)) };
 
-    fn broken(&self) -> Option<usize> {
-        if self.fragment.len() > LONGEST - SHORTEST {
-            return Some(0);
-        }
-        if !is_number(self.number) {
-            return Some(4);
-        }
-        None
+    fn check(&self) -> Result<(), WireFault> {
+        rule(self.fragment.len() <= LONGEST - SHORTEST, 0)?;
+        rule(is_number(self.number), 4)
     }
 
     fn size(&self) -> usize {
@@ -38,10 +32,10 @@ impl Written for Data<'_> {
     }
 
     fn fill(&self, size: usize, out: &mut [u8]) {
-        put_head(out, size as u16, self.priority, DATA, self.number);
-        put_quad(out, 8, self.source);
-        put_quad(out, 12, self.message);
-        put(out, 16, self.fragment);
+        put_head(out, size as u16, self.priority, Kind::Data, self.number);
+        put(out, 8, &self.source);
+        put(out, 12, &self.message);
+        put_octets(out, 16, self.fragment);
         seal(out, size);
     }
 }
@@ -64,8 +58,8 @@ impl Written for Discard {
 
     ghost back = { λ d xs. read_of Receiver xs ≡ Ok (said_discard (discard_in d)) };
 
-    fn broken(&self) -> Option<usize> {
-        None
+    fn check(&self) -> Result<(), WireFault> {
+        Ok(())
     }
 
     fn size(&self) -> usize {
@@ -73,9 +67,9 @@ impl Written for Discard {
     }
 
     fn fill(&self, size: usize, out: &mut [u8]) {
-        put_head(out, size as u16, self.priority, DISCARD, 0);
-        put_quad(out, 8, self.source);
-        put_quad(out, 12, self.message);
+        put_head(out, size as u16, self.priority, Kind::Discard, 0);
+        put(out, 8, &self.source);
+        put(out, 12, &self.message);
         seal(out, size);
     }
 }

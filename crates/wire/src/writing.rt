@@ -1,5 +1,6 @@
 // Writing a PDU into a caller's buffer.
-ghost use Rattle.std.specs.Prelude.{◌≡◌, ℕ, ◌≤◌, List, ◌++◌, length, take, drop, IfOk, None, Option};
+ghost use Rattle.std.specs.Prelude.{◌≡◌, ℕ, ◌≤◌, List, ◌++◌, length, take, drop, IfOk, None, Ok, Err, Option};
+ghost use Rattle.std.specs.Option.{option_map_or};
 ghost use Rattle.pdu.specs.Write.{sent, counted, fronted};
 ghost use Rattle.protocol.specs.Limits.{longest};
 ghost use Rattle.wire.specs.Faults.{causes};
@@ -14,9 +15,9 @@ pub(crate) trait Written {
 
     ghost back: { Self → List ℕ → Type 0 };
 
-    // The lowest place whose field would break its rule.
-    fn broken(&self) -> Option<usize>
-        ensures { result ≡ unfit self.now };
+    // Refusal 5 with the lowest place whose field would break its rule.
+    fn check(&self) -> Result<(), WireFault>
+        ensures { result ≡ option_map_or (λ place. Err (WireFault.Field place)) (unfit self.now) (Ok tt) };
 
     fn size(&self) -> usize
         requires { unfit self.now ≡ None }
@@ -38,9 +39,7 @@ pub(crate) fn write_pdu<P: Written>(pdu: &P, out: &mut [u8]) -> Result<usize, Wi
     ensures buffer { out.new ≡ fronted (sent (P.Written.unfit pdu.now) (P.Written.octets pdu.now) (length out.old)) out.old }
     ensures back { IfOk result (λ n. P.Written.back pdu.now (take n out.new)) }
 {
-    if let Some(place) = pdu.broken() {
-        return Err(WireFault::Field { place });
-    }
+    pdu.check()?;
     let needed = pdu.size();
     if out.len() < needed {
         return Err(WireFault::Buffer { needed });

@@ -1,18 +1,20 @@
-use Rattle.std.proofs.Common.{◌+◌, ◌*◌, sym, refl, ◌∙◌, arith}
-use Rattle.pdu.proofs.Walks.{unwritten_on, unwritten_stop, unwritten_end}
+use Rattle.std.proofs.Common.{◌+◌, ◌*◌, not, sym, ap, ◌∙◌, rules}
+use borrow.Author.Tests.{tests}
+use Rattle.std.proofs.lemmas.Iterator.{YieldsList-from_slice}
+use Rattle.std.proofs.lemmas.Iterator.Search.{position_from_yields_List}
+use Rattle.std.specs.Option.{option_map}
+use Rattle.protocol.specs.Limits.{is_number}
+use Rattle.wire.proofs.Words.{broken_position}
 use Rattle.wire.proofs.write_ack.broken_place.Goals as goal
 
-pub loop-k-preserved : goal.loop-k-preserved
-loop-k-preserved c =
-    let k = c.loop-k.k in
-    sym (unwritten_on c.args.numbers.now (24 + 2 * k) (24 + 2 * (k + 1)) k (k + 1) _ (omega arith) refl (omega arith) refl (sym c.if-not-is_number.ensures))
-    ∙ c.loop-k.invariant
-
-pub returns-then-not-is_number : goal.returns-then-not-is_number
-returns-then-not-is_number c =
-    let k = c.loop-k.k in
-    sym (unwritten_stop c.args.numbers.now (24 + 2 * k) (24 + 2 * (k + 1)) k (k + 1) _ (omega arith) refl (omega arith) refl (sym c.if-not-is_number.ensures))
-    ∙ c.loop-k.invariant
+pub returns-in_err-k : goal.returns-in_err-k
+returns-in_err-k c =
+    let ns = c.args.numbers.now in
+    let first = position_from_yields_List (λ n. not (is_number n)) c.position.new.self _ c.position.result c.position.ensures.ran (YieldsList-from_slice ns (cc)) (λ x b q k. search (rules, tests)) in
+    c.from_residual.ensures ∙ ap (option_map (λ k. 24 + 2 * k)) (sym (c.in_err-k.was) ∙ first) ∙ broken_position 24 ns
 
 pub returns : goal.returns
-returns c = sym (unwritten_end c.args.numbers.now (24 + 2 * c.loop-k.k) c.loop-k.k (omega arith)) ∙ c.loop-k.invariant
+returns c =
+    let ns = c.args.numbers.now in
+    let first = position_from_yields_List (λ n. not (is_number n)) c.position.new.self _ c.position.result c.position.ensures.ran (YieldsList-from_slice ns (cc)) (λ x b q k. search (rules, tests)) in
+    ap (option_map (λ k. 24 + 2 * k)) (sym (c.in_ok-k.was) ∙ first) ∙ broken_position 24 ns

@@ -5,8 +5,8 @@ use Rattle.pdu.proofs.Back.{length-numbers, ack_back}
 use Rattle.pdu.proofs.Puts.{overlaid_next, pdu_filled}
 use Rattle.wire.proofs.write_ack.NewAckWritten.fill.Goals as goal
 
-pub put_numbers-requires : goal.put_numbers-requires
-put_numbers-requires c = omega (arith, length-numbers c.args.self.now.numbers.now)
+pub put_all-requires : goal.put_all-requires
+put_all-requires c = omega (arith, length-numbers c.args.self.now.numbers.now)
 
 pub returns : goal.returns
 returns c =
@@ -19,11 +19,11 @@ returns c =
     let entry = count ++ two_octets (10 + 2 * length ns) in
     let source = entry ++ four_octets a.source in
     let message = source ++ four_octets a.message in
-    let b = overlaid_next o _ _ 8 12 sender (two_octets 1) c.put_quad.ensures.after c.put_word.ensures refl (omega arith) in
-    let d = overlaid_next o _ _ 8 14 count (two_octets (10 + 2 * length ns)) b c.put_word-2.ensures refl (omega arith) in
-    let e = overlaid_next o _ _ 8 16 entry (four_octets a.source) d c.put_quad-2.ensures.after refl (omega arith) in
-    let f = overlaid_next o _ _ 8 20 source (four_octets a.message) e c.put_quad-3.ensures.after refl (omega arith) in
-    let body = overlaid_next o _ _ 8 24 message (number_octets ns) f c.put_numbers.ensures refl (omega arith) in
+    let b = overlaid_next o _ _ 8 12 sender (two_octets 1) c.put.ensures.after c.put-2.ensures.after refl (omega arith) in
+    let d = overlaid_next o _ _ 8 14 count (two_octets (10 + 2 * length ns)) b c.put-3.ensures.after refl (omega arith) in
+    let e = overlaid_next o _ _ 8 16 entry (four_octets a.source) d c.put-4.ensures.after refl (omega arith) in
+    let f = overlaid_next o _ _ 8 20 source (four_octets a.message) e c.put-5.ensures.after refl (omega arith) in
+    let body = overlaid_next o _ _ 8 24 message (number_octets ns) f c.put_all.ensures.after refl (omega arith) in
     record {
       after = pdu_filled a.priority 1 0 c.args.size (message ++ number_octets ns) c.args.out.now o _ _ c.put_head.ensures body c.seal.ensures (omega arith) (omega arith);
       back = ack_back a.priority a.sender a.source a.message ns (omega arith) (omega arith) (omega arith) c.requires.fit;
