@@ -1,11 +1,9 @@
 // Going through the destinations of an Address.
-ghost use Rattle.std.specs.Prelude.{◌≡◌, ◌+◌, ◌≤◌, min, List, [], ◌∷◌, length, IfSome, MatchOption};
-ghost use Rattle.std.specs.Iterator.{AlwaysYields, IsFinite, YieldsFirstBy, item_count};
+ghost use Rattle.std.specs.Prelude.{◌≡◌, ◌+◌, ◌≤◌, min, [], ◌∷◌, length, IfSome, MatchOption};
+ghost use Rattle.std.specs.Iterator.{YieldsFirstBy, item_count};
 ghost use Rattle.std.specs.Option.{option_map};
 ghost use Rattle.std.specs.List.{slice_get};
 ghost use Rattle.pdu.specs.Octets.{quad};
-ghost use Rattle.pdu.specs.Read.{unrisen};
-ghost use Rattle.pdu.specs.Said;
 ghost use Rattle.pdu.specs.Types.{destination_size};
 ghost use Rattle.wire.specs.Views.{destination_in, destinations_in};
 
@@ -30,24 +28,26 @@ fn destination_at(datagram: &[u8], place: usize) -> Destination
 fn step(reserved: u16, left: usize) -> usize
     ensures { result ≡ min (destination_size + reserved) left }
 {
-    (DESTINATION_SIZE + reserved as usize).min(left)
+    (DESTINATION_SIZE + usize::from(reserved)).min(left)
 }
 
 impl<'a> Destinations<'a> {
     // The first destination and the others behind it.
+    #[tactic(auto, using(crate::proofs::Ends::destination_steps))]
     pub fn split_first(&self) -> Option<(Destination, Destinations<'a>)>
         ensures parts { MatchOption result (destinations_in self.now ≡ []) (λ p. destinations_in self.now ≡ destination_in p.0 ∷ destinations_in p.1) }
         ensures count { IfSome result (λ p. p.1.count + 1 ≡ self.now.count) }
     {
+        let count = self.count.checked_sub(1)?;
         let left = self.datagram.len().saturating_sub(self.place);
-        if self.count == 0 || left < DESTINATION_SIZE {
+        if left < DESTINATION_SIZE {
             return None;
         }
         let first = destination_at(self.datagram, self.place);
         let rest = Destinations {
             datagram: self.datagram,
             place: self.place + step(self.reserved, left),
-            count: self.count - 1,
+            count,
             reserved: self.reserved,
         };
         Some((first, rest))
@@ -74,20 +74,4 @@ impl Iterator for Destinations<'_> {
         *self = behind;
         Some(first)
     }
-}
-
-// The place of the first destination that is not above the one before it.
-pub(crate) fn first_unrisen<I: Iterator<Item = Destination>>(destinations: I) -> Option<usize>
-    requires can { I.can_next destinations }
-    requires ends { IsFinite (I.remaining destinations) }
-    ensures { (ds : List Said.Destination) → AlwaysYields I.next_gives destination_in destinations ds → result ≡ unrisen ds }
-{
-    let mut before: Option<u32> = None;
-    for d in destinations {
-        if before.is_some_and(|least| d.destination <= least) {
-            return Some(d.place);
-        }
-        before = Some(d.destination);
-    }
-    None
 }

@@ -9,8 +9,8 @@ ghost use Rattle.pdu.specs.Types.{entry_head};
 ghost use Rattle.wire.specs.Views.{entry_in, entries_in, entry_broken_in, broken_in, numbers_in, place_of};
 
 use crate::fields::{quad_at, word_at};
+use crate::rules::first_broken;
 use crate::views::{Entries, Entry, Numbers};
-use protocol::is_number;
 
 // So many octets of an entry stand before its numbers.
 pub(crate) const ENTRY_HEAD: usize = 10;
@@ -39,6 +39,7 @@ fn is_entry_length(length: usize) -> bool
 }
 
 // The length of the entry at a place of a datagram, or the place that is broken if none stands there.
+#[tactic(auto, using(pdu::proofs::Walks::entry_short, pdu::proofs::Walks::entry_odd, pdu::proofs::Walks::entry_low, pdu::proofs::Walks::entry_past, pdu::proofs::Walks::entry_whole))]
 fn entry_length(datagram: &[u8], place: usize) -> Result<usize, usize>
     ensures broken { entry_broken place (drop place datagram.now) ≡ place_of result }
     ensures within { IfOk result (λ l. (l ≡ word datagram.now place) × (entry_head ≤ l) × (place + l ≤ length datagram.now)) }
@@ -47,7 +48,7 @@ fn entry_length(datagram: &[u8], place: usize) -> Result<usize, usize>
     if left < ENTRY_HEAD {
         return Err(ACK_COUNT);
     }
-    let length = word_at(datagram, place) as usize;
+    let length = usize::from(word_at(datagram, place));
     if !is_entry_length(length) {
         return Err(place);
     }
@@ -166,9 +167,7 @@ impl Entry<'_> {
         requires { self.now.place + entry_head + 2 * length self.now.numbers.octets.now < 2 ^ 64 }
         ensures { result ≡ entry_broken_in self.now }
     {
-        let mut numbers = self.numbers;
-        let k = numbers.position(|number| !is_number(number))?;
-        Some(self.place + ENTRY_HEAD + 2 * k)
+        first_broken(self.numbers, self.place + ENTRY_HEAD)
     }
 }
 

@@ -1,6 +1,5 @@
 // Why a datagram is refused, or a PDU is not written.
-ghost use Rattle.std.specs.Prelude.{◌≡◌, cond, Ok, Err};
-ghost use Rattle.std.specs.Option.{option_map_or};
+ghost use Rattle.std.specs.Prelude.{◌≡◌};
 ghost use Rattle.wire.specs.Faults.{cause_of};
 
 #[derive(Clone, Copy, Debug, PartialEq, Eq)]
@@ -33,21 +32,4 @@ impl WireFault {
             WireFault::Buffer { .. } => 12,
         }
     }
-}
-
-// Refusal 5 with a place, unless its rule is kept.
-pub(crate) fn rule(kept: bool, place: usize) -> Result<(), WireFault>
-    ensures { result ≡ cond kept (Ok tt) (Err (WireFault.Field place)) }
-{
-    if kept {
-        return Ok(());
-    }
-    Err(WireFault::Field { place })
-}
-
-// Refusal 5 with the broken place, if there is one.
-pub(crate) fn unbroken(broken: Option<usize>) -> Result<(), WireFault>
-    ensures { result ≡ option_map_or (λ place. Err (WireFault.Field place)) broken (Ok tt) }
-{
-    broken.map_or(Ok(()), |place| Err(WireFault::Field { place }))
 }

@@ -11,6 +11,7 @@ mod kind;
 mod pdus;
 mod put;
 mod reading;
+mod rules;
 mod sum;
 mod views;
 mod write_ack;

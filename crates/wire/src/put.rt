@@ -87,10 +87,8 @@ pub(crate) fn put_all<T: ToOctets<N>, const N: usize>(out: &mut [u8], place: usi
     ensures after { out.new ≡ overlaid out.old place (flat_map T.ToOctets.octets items.now) }
     ensures fits { All T.ToOctets.fits items.now }
 {
-    let mut at = place;
-    for item in items {
-        put(out, at, item);
-        at += N;
+    for (i, item) in items.iter().enumerate() {
+        put(out, place + N * i, item);
     }
 }
 

@@ -9,13 +9,14 @@ ghost use Rattle.wire.specs.Told.{Counted, told_of};
 ghost use Rattle.wire.specs.Views.{data_in, address_in, discard_in, ack_in, destinations_in, entries_in};
 
 use crate::datagram::Datagram;
-use crate::destinations::{DESTINATION_SIZE, first_unrisen};
+use crate::destinations::DESTINATION_SIZE;
 use crate::entries::ACK_COUNT;
-use crate::fault::{WireFault, rule, unbroken};
+use crate::fault::WireFault;
 use crate::fields::{quad_at, word_at};
 use crate::head::head;
 use crate::kind::Kind;
 use crate::pdus::{Ack, Address, Data, Discard, Pdu};
+use crate::rules::{first_unrisen, rule, unbroken};
 use crate::views::{Destinations, Entries};
 use pdu::Accepts;
 use protocol::{SHORTEST, is_number};

@@ -9,13 +9,14 @@ ghost use Rattle.wire.specs.Faults.{causes};
 ghost use Rattle.wire.specs.Written.{octets_of_ack, ack_sent, new_ack_in};
 
 use crate::entries::{ACK_COUNT, ENTRY_HEAD};
-use crate::fault::{WireFault, rule, unbroken};
+use crate::fault::WireFault;
 use crate::kind::Kind;
 use crate::pdus::NewAck;
 use crate::put::{put, put_all, put_head, seal};
 use crate::reading::ACK_HEAD;
+use crate::rules::{first_broken, rule, unbroken};
 use crate::writing::{Written, write_pdu};
-use protocol::{LONGEST, is_number};
+use protocol::LONGEST;
 
 // The numbers of the one entry stand here, and so many fit into the longest datagram.
 const NUMBERS_AT: usize = ACK_HEAD + ENTRY_HEAD;
@@ -27,8 +28,7 @@ fn broken_place(numbers: &[u16]) -> Option<usize>
     requires { length numbers.now ≤ longest_list }
     ensures { result ≡ numbers_broken (ack_head + entry_head) numbers.now }
 {
-    let k = numbers.iter().position(|number| !is_number(*number))?;
-    Some(NUMBERS_AT + 2 * k)
+    first_broken(numbers.iter().copied(), NUMBERS_AT)
 }
 
 impl Written for NewAck<'_> {

@@ -8,12 +8,13 @@ ghost use Rattle.pdu.specs.Write.{address_unfit, counted, fronted, placed};
 ghost use Rattle.wire.specs.Faults.{causes};
 ghost use Rattle.wire.specs.Written.{pairs_of, octets_of_address, address_sent, new_address_in};
 
-use crate::destinations::{DESTINATION_SIZE, first_unrisen};
-use crate::fault::{WireFault, rule, unbroken};
+use crate::destinations::DESTINATION_SIZE;
+use crate::fault::WireFault;
 use crate::kind::Kind;
 use crate::pdus::{Addressee, NewAddress};
 use crate::put::{put, put_all, put_head, seal};
 use crate::reading::ADDRESS_HEAD;
+use crate::rules::{first_unrisen, rule, unbroken};
 use crate::views::Destination;
 use crate::writing::{Written, write_pdu};
 use protocol::{LONGEST, is_number};

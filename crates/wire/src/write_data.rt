@@ -8,10 +8,11 @@ ghost use Rattle.wire.specs.Faults.{causes};
 ghost use Rattle.wire.specs.Views.{data_in, discard_in};
 ghost use Rattle.wire.specs.Written.{octets_of_data, octets_of_discard, data_sent, discard_sent};
 
-use crate::fault::{WireFault, rule};
+use crate::fault::WireFault;
 use crate::kind::Kind;
 use crate::pdus::{Data, Discard};
 use crate::put::{put, put_head, put_octets, seal};
+use crate::rules::rule;
 use crate::writing::{Written, write_pdu};
 use protocol::{LONGEST, SHORTEST, is_number};
 

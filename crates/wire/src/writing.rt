@@ -8,6 +8,7 @@ ghost use Rattle.wire.specs.Faults.{causes};
 use crate::fault::WireFault;
 
 // A PDU that can be written: which field would break its rule, the octets otherwise, and what reading them gives back.
+// It is not public, since `size` and `fill` ask that no field breaks its rule: each PDU has a `write` of its own.
 pub(crate) trait Written {
     ghost unfit: { Self → Option ℕ };
 

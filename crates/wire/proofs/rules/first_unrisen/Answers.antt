@@ -3,7 +3,7 @@ use Rattle.std.specs.Iterator.{AlwaysYields}
 use Rattle.pdu.specs.Read.{unrisen_after}
 use Rattle.wire.specs.Views.{destination_in}
 use Rattle.wire.proofs.Rising.{is_unrisen, behind, at_end}
-use Rattle.wire.proofs.destinations.first_unrisen.Goals as goal
+use Rattle.wire.proofs.rules.first_unrisen.Goals as goal
 
 pub loop-d-init : goal.loop-d-init
 loop-d-init g c = (

@@ -4,7 +4,7 @@ use Rattle.pdu.specs.Read.{unrisen}
 use Rattle.pdu.specs.Said as Said
 use Rattle.wire.specs.Views.{destination_in}
 use Rattle.wire.proofs.Rising.{unrisen_from}
-use Rattle.wire.proofs.destinations.first_unrisen.Given as goal
+use Rattle.wire.proofs.rules.first_unrisen.Given as goal
 
 abbrev pub invariant-loop-d : goal.invariant-loop-d
 invariant-loop-d g l =
