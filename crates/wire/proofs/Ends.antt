@@ -1,11 +1,11 @@
--- One step of a walk through entries, and where it ends.
+-- One step of a walk through destinations or entries, and where it ends.
 use Rattle.std.proofs.Common.{◌≡◌, ℕ, zero, suc, ◌+◌, ◌-◌, ◌<◌, List, [], ◌∷◌, length, take, drop, Some, None, Ok, Err, Option, Result, sym, refl, ap, ◌∙◌, inr, arith, length-drop}
 use Rattle.std.specs.Result.{result_err}
 use Rattle.pdu.specs.Octets.{word, quad, words_of}
 use Rattle.pdu.specs.Read.{destinations_of, entry_broken, entry_of, entries_if, entries_of, entries_broken, lower, numbers_broken}
 use Rattle.pdu.specs.Said as Said
 use Rattle.pdu.specs.Types.{destination_size, entry_head}
-use Rattle.pdu.proofs.Walks.{destinations-none, destinations_front, entries_stop, entries_front, broken_front, broken_stop}
+use Rattle.pdu.proofs.Walks.{destinations-none, entries_stop, entries_front, broken_front, broken_stop}
 use Rattle.wire.specs.Views.{place_of}
 
 place_from_err : (r : Result ℕ ℕ) → result_err r ≡ place_of r
@@ -43,5 +43,3 @@ module _ (place l count rest : ℕ) (xs : List ℕ) (e : Said.Entry) (stands : e
 -- fewer octets are left than a destination has
 pub destinations_short : (count place reserved : ℕ) (xs : List ℕ) → length xs - place < destination_size → destinations_of count place reserved (drop place xs) ≡ []
 destinations_short count place reserved xs h = destinations-none count place reserved (drop place xs) (inr (simp length-drop h))
-
-pub ruleset destination_steps = (destinations-none, destinations_short, destinations_front)

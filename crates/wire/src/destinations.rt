@@ -33,7 +33,7 @@ fn step(reserved: u16, left: usize) -> usize
 
 impl<'a> Destinations<'a> {
     // The first destination and the others behind it.
-    #[tactic(auto, using(crate::proofs::Ends::destination_steps))]
+    #[tactic(auto, using(crate::proofs::Sets::destination_steps))]
     pub fn split_first(&self) -> Option<(Destination, Destinations<'a>)>
         ensures parts { MatchOption result (destinations_in self.now ≡ []) (λ p. destinations_in self.now ≡ destination_in p.0 ∷ destinations_in p.1) }
         ensures count { IfSome result (λ p. p.1.count + 1 ≡ self.now.count) }

@@ -39,7 +39,7 @@ fn is_entry_length(length: usize) -> bool
 }
 
 // The length of the entry at a place of a datagram, or the place that is broken if none stands there.
-#[tactic(auto, using(pdu::proofs::Walks::entry_short, pdu::proofs::Walks::entry_odd, pdu::proofs::Walks::entry_low, pdu::proofs::Walks::entry_past, pdu::proofs::Walks::entry_whole))]
+#[tactic(auto, using(crate::proofs::Sets::entry_cases))]
 fn entry_length(datagram: &[u8], place: usize) -> Result<usize, usize>
     ensures broken { entry_broken place (drop place datagram.now) ≡ place_of result }
     ensures within { IfOk result (λ l. (l ≡ word datagram.now place) × (entry_head ≤ l) × (place + l ≤ length datagram.now)) }

@@ -65,6 +65,7 @@ impl ToOctets<8> for Addressee {
 }
 
 // Writes octets over a buffer from a place on.
+#[tactic(auto, using(crate::proofs::Sets::parts))]
 pub(crate) fn put_octets(out: &mut [u8], place: usize, octets: &[u8])
     requires { place + length octets.now ≤ length out.old }
     ensures { out.new ≡ overlaid out.old place octets.now }
@@ -104,6 +105,7 @@ pub(crate) fn put_head(out: &mut [u8], size: u16, priority: u8, kind: Kind, fiel
 }
 
 // Puts the right Checksum into the PDU of `size` octets at the front of a buffer.
+#[tactic(auto, using(crate::proofs::Sealed::seal_put))]
 pub(crate) fn seal(out: &mut [u8], size: usize)
     requires { (8 ≤ size) × ((size ≤ longest) × (size ≤ length out.old)) }
     ensures { out.new ≡ sealed (take size out.old) ++ drop size out.old }

@@ -27,6 +27,7 @@ fn folded(sum: u32) -> u16
 }
 
 // The Checksum that belongs to a datagram.
+#[tactic(auto, using(crate::proofs::Sets::sums))]
 pub(crate) fn checksum(datagram: &[u8]) -> u16
     requires { (8 ≤ length datagram.now) × (length datagram.now ≤ longest) }
     ensures { result ≡ checksum_of datagram.now }

@@ -43,6 +43,7 @@ impl Written for NewAck<'_> {
         unbroken(broken_place(self.numbers))
     }
 
+    #[tactic(auto, using(crate::proofs::Sets::sizes))]
     fn size(&self) -> usize {
         NUMBERS_AT + 2 * self.numbers.len()
     }

@@ -49,6 +49,7 @@ impl Written for NewAddress<'_> {
         unbroken(unrisen_place(self.destinations))
     }
 
+    #[tactic(auto, using(crate::proofs::Sets::sizes))]
     fn size(&self) -> usize {
         ADDRESS_HEAD + DESTINATION_SIZE * self.destinations.len()
     }
