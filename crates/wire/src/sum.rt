@@ -1,17 +1,26 @@
 // The Checksum of a PDU.
-ghost use Rattle.std.specs.Prelude.{◌≡◌, ◌≤◌, length};
+ghost use Rattle.std.specs.Prelude.{◌≡◌, ◌<◌, ◌≤◌, length};
 ghost use Rattle.pdu.specs.Sum.{carried, checksum_of, word_sum};
 ghost use Rattle.protocol.specs.Limits.{longest};
 
 use crate::fields::word_at;
 
-// The plain sum of the big-endian words, an odd last octet being followed by 0; at most 1,472 octets cannot overflow it.
+// What an odd last octet counts for, if there is one: 0 follows it.
+fn odd_word(odd: &[u8]) -> u32
+    requires { length odd.now < 2 }
+    ensures value { result ≡ word_sum odd.now }
+    ensures bound { result ≤ 65535 }
+{
+    odd.first().map_or(0, |last| u32::from(*last) * 256)
+}
+
+// The plain sum of the big-endian words; at most 1,472 octets cannot overflow it.
 fn summed(datagram: &[u8]) -> u32
     requires { length datagram.now ≤ longest }
     ensures { result ≡ word_sum datagram.now }
 {
     let (words, odd) = datagram.as_chunks();
-    let mut sum = odd.first().map_or(0, |last| u32::from(*last) * 256);
+    let mut sum = odd_word(odd);
     for word in words {
         sum += u32::from(u16::from_be_bytes(*word));
     }
