@@ -24,3 +24,4 @@ pub use kind::{Kind, UnknownKind};
 pub use pdus::{Ack, Address, Addressee, Data, Discard, NewAck, NewAddress, Pdu};
 pub use reading::read;
 pub use views::{Destination, Destinations, Entries, Entry, Numbers};
+pub use writing::Written;

@@ -15,7 +15,7 @@ use crate::pdus::NewAck;
 use crate::put::{put, put_all, put_head, seal};
 use crate::reading::ACK_HEAD;
 use crate::rules::{first_broken, rule, unbroken};
-use crate::writing::{Written, write_pdu};
+use crate::writing::Fields;
 use protocol::LONGEST;
 
 // The numbers of the one entry stand here, and so many fit into the longest datagram.
@@ -31,7 +31,7 @@ fn broken_place(numbers: &[u16]) -> Option<usize>
     first_broken(numbers.iter().copied(), NUMBERS_AT)
 }
 
-impl Written for NewAck<'_> {
+impl Fields for NewAck<'_> {
     ghost unfit = { λ a. ack_unfit a.numbers.now };
 
     ghost octets = { octets_of_ack };
@@ -61,16 +61,5 @@ impl Written for NewAck<'_> {
         put(out, 20, &self.message);
         put_all(out, NUMBERS_AT, self.numbers);
         seal(out, size);
-    }
-}
-
-impl NewAck<'_> {
-    // Writes the PDU to the front of `out`, and tells its length.
-    pub fn write(&self, out: &mut [u8]) -> Result<usize, WireFault>
-        ensures answer { causes result ≡ counted (ack_sent self.now (length out.old)) }
-        ensures buffer { out.new ≡ fronted (ack_sent self.now (length out.old)) out.old }
-        ensures back { IfOk result (λ n. read_of Sender (take n out.new) ≡ Ok (said_ack (new_ack_in self.now))) }
-    {
-        write_pdu(self, out)
     }
 }

@@ -16,7 +16,7 @@ use crate::put::{put, put_all, put_head, seal};
 use crate::reading::ADDRESS_HEAD;
 use crate::rules::{first_unrisen, rule, unbroken};
 use crate::views::Destination;
-use crate::writing::{Written, write_pdu};
+use crate::writing::Fields;
 use protocol::{LONGEST, is_number};
 
 // So many destinations fit into the longest datagram.
@@ -36,7 +36,7 @@ fn unrisen_place(destinations: &[Addressee]) -> Option<usize>
     )
 }
 
-impl Written for NewAddress<'_> {
+impl Fields for NewAddress<'_> {
     ghost unfit = { λ a. address_unfit a.total (pairs_of a.destinations.now) };
 
     ghost octets = { octets_of_address };
@@ -63,16 +63,5 @@ impl Written for NewAddress<'_> {
         put(out, 22, &0u16);
         put_all(out, ADDRESS_HEAD, self.destinations);
         seal(out, size);
-    }
-}
-
-impl NewAddress<'_> {
-    // Writes the PDU to the front of `out`, and tells its length.
-    pub fn write(&self, out: &mut [u8]) -> Result<usize, WireFault>
-        ensures answer { causes result ≡ counted (address_sent self.now (length out.old)) }
-        ensures buffer { out.new ≡ fronted (address_sent self.now (length out.old)) out.old }
-        ensures back { IfOk result (λ n. read_of Receiver (take n out.new) ≡ Ok (said_address (new_address_in self.now))) }
-    {
-        write_pdu(self, out)
     }
 }

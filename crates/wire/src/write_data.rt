@@ -13,10 +13,10 @@ use crate::kind::Kind;
 use crate::pdus::{Data, Discard};
 use crate::put::{put, put_head, put_octets, seal};
 use crate::rules::rule;
-use crate::writing::{Written, write_pdu};
+use crate::writing::Fields;
 use protocol::{LONGEST, SHORTEST, is_number};
 
-impl Written for Data<'_> {
+impl Fields for Data<'_> {
     ghost unfit = { λ d. data_unfit d.number d.fragment.now };
 
     ghost octets = { octets_of_data };
@@ -41,18 +41,7 @@ impl Written for Data<'_> {
     }
 }
 
-impl Data<'_> {
-    // Writes the PDU to the front of `out`, and tells its length.
-    pub fn write(&self, out: &mut [u8]) -> Result<usize, WireFault>
-        ensures answer { causes result ≡ counted (data_sent self.now (length out.old)) }
-        ensures buffer { out.new ≡ fronted (data_sent self.now (length out.old)) out.old }
-        ensures back { IfOk result (λ n. read_of Receiver (take n out.new) ≡ Ok (said_data (data_in self.now))) }
-    {
-        write_pdu(self, out)
-    }
-}
-
-impl Written for Discard {
+impl Fields for Discard {
     ghost unfit = { λ _. None };
 
     ghost octets = { octets_of_discard };
@@ -72,16 +61,5 @@ impl Written for Discard {
         put(out, 8, &self.source);
         put(out, 12, &self.message);
         seal(out, size);
-    }
-}
-
-impl Discard {
-    // Writes the PDU to the front of `out`, and tells its length.
-    pub fn write(&self, out: &mut [u8]) -> Result<usize, WireFault>
-        ensures answer { causes result ≡ counted (discard_sent self.now (length out.old)) }
-        ensures buffer { out.new ≡ fronted (discard_sent self.now (length out.old)) out.old }
-        ensures back { IfOk result (λ n. read_of Receiver (take n out.new) ≡ Ok (said_discard (discard_in self.now))) }
-    {
-        write_pdu(self, out)
     }
 }

@@ -1,15 +1,28 @@
 // Writing a PDU into a caller's buffer.
-ghost use Rattle.std.specs.Prelude.{◌≡◌, ℕ, ◌≤◌, List, ◌++◌, length, take, drop, IfOk, None, Ok, Err, Option};
+ghost use Rattle.std.specs.Prelude.{◌≡◌, ℕ, ◌≤◌, List, ◌++◌, length, take, drop, IfOk, None, Ok, Err, Option, Result};
 ghost use Rattle.std.specs.Option.{option_map_or};
 ghost use Rattle.pdu.specs.Write.{sent, counted, fronted};
+ghost use Rattle.protocol.specs.Causes.{Cause};
 ghost use Rattle.protocol.specs.Limits.{longest};
 ghost use Rattle.wire.specs.Faults.{causes};
 
 use crate::fault::WireFault;
 
-// A PDU that can be written: which field would break its rule, the octets otherwise, and what reading them gives back.
-// It is not public, since `size` and `fill` ask that no field breaks its rule: each PDU has a `write` of its own.
-pub(crate) trait Written {
+// A PDU that can be written: what the writer answers for a buffer with so much room, and what reading the octets gives back.
+pub trait Written {
+    ghost answer: { Self → (room : ℕ) → Result (List ℕ) Cause };
+
+    ghost back: { Self → List ℕ → Type 0 };
+
+    // Writes the PDU to the front of `out`, and tells its length.
+    fn write(&self, out: &mut [u8]) -> Result<usize, WireFault>
+        ensures answer { causes result ≡ counted (answer self.now (length out.old)) }
+        ensures buffer { out.new ≡ fronted (answer self.now (length out.old)) out.old }
+        ensures back { IfOk result (λ n. back self.now (take n out.new)) };
+}
+
+// The parts of a writer: which field would break its rule, the octets otherwise, and what reading them gives back.
+pub(crate) trait Fields {
     ghost unfit: { Self → Option ℕ };
 
     ghost octets: { Self → List ℕ };
@@ -35,16 +48,18 @@ pub(crate) trait Written {
         ensures back { back self.now (octets self.now) };
 }
 
-pub(crate) fn write_pdu<P: Written>(pdu: &P, out: &mut [u8]) -> Result<usize, WireFault>
-    ensures answer { causes result ≡ counted (sent (P.Written.unfit pdu.now) (P.Written.octets pdu.now) (length out.old)) }
-    ensures buffer { out.new ≡ fronted (sent (P.Written.unfit pdu.now) (P.Written.octets pdu.now) (length out.old)) out.old }
-    ensures back { IfOk result (λ n. P.Written.back pdu.now (take n out.new)) }
-{
-    pdu.check()?;
-    let needed = pdu.size();
-    if out.len() < needed {
-        return Err(WireFault::Buffer { needed });
+impl<P: Fields> Written for P {
+    ghost answer = { λ pdu room. sent (P.Fields.unfit pdu) (P.Fields.octets pdu) room };
+
+    ghost back = { λ pdu xs. P.Fields.back pdu xs };
+
+    fn write(&self, out: &mut [u8]) -> Result<usize, WireFault> {
+        self.check()?;
+        let needed = self.size();
+        if out.len() < needed {
+            return Err(WireFault::Buffer { needed });
+        }
+        self.fill(needed, out);
+        Ok(needed)
     }
-    pdu.fill(needed, out);
-    Ok(needed)
 }

@@ -3,7 +3,7 @@ use Rattle.pdu.specs.Octets.{two_octets, four_octets}
 use Rattle.pdu.specs.Write.{number_octets}
 use Rattle.pdu.proofs.Back.{length-numbers, ack_back}
 use Rattle.pdu.proofs.Puts.{overlaid_next, pdu_filled}
-use Rattle.wire.proofs.write_ack.NewAckWritten.fill.Goals as goal
+use Rattle.wire.proofs.write_ack.NewAckFields.fill.Goals as goal
 
 pub put_all-requires : goal.put_all-requires
 put_all-requires c = omega (arith, length-numbers c.args.self.now.numbers.now)

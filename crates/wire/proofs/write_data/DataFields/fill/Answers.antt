@@ -2,7 +2,7 @@ use Rattle.std.proofs.Common.{◌++◌, refl, arith}
 use Rattle.pdu.specs.Octets.{four_octets}
 use Rattle.pdu.proofs.Back.{data_back}
 use Rattle.pdu.proofs.Puts.{overlaid_next, pdu_filled}
-use Rattle.wire.proofs.write_data.DataWritten.fill.Goals as goal
+use Rattle.wire.proofs.write_data.DataFields.fill.Goals as goal
 
 pub returns : goal.returns
 returns c =
