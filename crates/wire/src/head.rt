@@ -39,7 +39,7 @@ pub(crate) fn head(accepts: Accepts, octets: &[u8]) -> Result<Datagram<'_>, Wire
     ensures taken { IfOk result (λ d. takes accepts (kind_number d.kind) ≡ true) }
 {
     let length = octets.len();
-    if length < SHORTEST || length > LONGEST {
+    if !(SHORTEST..=LONGEST).contains(&length) {
         return Err(WireFault::Size { length });
     }
     let field = word_at(octets, 0);

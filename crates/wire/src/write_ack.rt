@@ -1,12 +1,11 @@
 // Writing ACKs of one entry.
-ghost use Rattle.std.specs.Prelude.{◌≡◌, ◌+◌, ◌≤◌, length, take, IfOk, Ok};
+ghost use Rattle.std.specs.Prelude.{◌≡◌, ◌+◌, ◌≤◌, length, Ok};
 ghost use Rattle.pdu.specs.declared.Accepts.TheVariants.{Sender};
 ghost use Rattle.pdu.specs.Read.{numbers_broken, read_of};
 ghost use Rattle.pdu.specs.Said.{said_ack};
 ghost use Rattle.pdu.specs.Types.{ack_head, entry_head, longest_list};
-ghost use Rattle.pdu.specs.Write.{ack_unfit, counted, fronted};
-ghost use Rattle.wire.specs.Faults.{causes};
-ghost use Rattle.wire.specs.Written.{octets_of_ack, ack_sent, new_ack_in};
+ghost use Rattle.pdu.specs.Write.{ack_unfit};
+ghost use Rattle.wire.specs.Written.{octets_of_ack, new_ack_in};
 
 use crate::entries::{ACK_COUNT, ENTRY_HEAD};
 use crate::fault::WireFault;

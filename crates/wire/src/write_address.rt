@@ -1,12 +1,11 @@
 // Writing Addresses.
-ghost use Rattle.std.specs.Prelude.{◌≡◌, ◌≤◌, length, take, IfOk, Ok};
+ghost use Rattle.std.specs.Prelude.{◌≡◌, ◌≤◌, length, Ok};
 ghost use Rattle.pdu.specs.declared.Accepts.TheVariants.{Receiver};
 ghost use Rattle.pdu.specs.Read.{read_of, unrisen};
 ghost use Rattle.pdu.specs.Said.{said_address};
 ghost use Rattle.pdu.specs.Types.{address_head, most_destinations};
-ghost use Rattle.pdu.specs.Write.{address_unfit, counted, fronted, placed};
-ghost use Rattle.wire.specs.Faults.{causes};
-ghost use Rattle.wire.specs.Written.{pairs_of, octets_of_address, address_sent, new_address_in};
+ghost use Rattle.pdu.specs.Write.{address_unfit, placed};
+ghost use Rattle.wire.specs.Written.{pairs_of, octets_of_address, new_address_in};
 
 use crate::destinations::DESTINATION_SIZE;
 use crate::fault::WireFault;

@@ -1,12 +1,11 @@
 // Writing Data PDUs and Discards.
-ghost use Rattle.std.specs.Prelude.{◌≡◌, length, take, IfOk, None, Ok};
+ghost use Rattle.std.specs.Prelude.{◌≡◌, None, Ok};
 ghost use Rattle.pdu.specs.declared.Accepts.TheVariants.{Receiver};
 ghost use Rattle.pdu.specs.Read.{read_of};
 ghost use Rattle.pdu.specs.Said.{said_data, said_discard};
-ghost use Rattle.pdu.specs.Write.{counted, data_unfit, fronted};
-ghost use Rattle.wire.specs.Faults.{causes};
+ghost use Rattle.pdu.specs.Write.{data_unfit};
 ghost use Rattle.wire.specs.Views.{data_in, discard_in};
-ghost use Rattle.wire.specs.Written.{octets_of_data, octets_of_discard, data_sent, discard_sent};
+ghost use Rattle.wire.specs.Written.{octets_of_data, octets_of_discard};
 
 use crate::fault::WireFault;
 use crate::kind::Kind;

@@ -8,7 +8,8 @@ ghost use Rattle.wire.specs.Faults.{causes};
 
 use crate::fault::WireFault;
 
-// A PDU that can be written: what the writer answers for a buffer with so much room, and what reading the octets gives back.
+// A PDU that can be written: what its writer answers for a buffer with so much room, which specs/Written.antt has for each,
+// and what reading the octets gives back.
 pub trait Written {
     ghost answer: { Self → (room : ℕ) → Result (List ℕ) Cause };
 
