@@ -3,6 +3,8 @@ use Rattle.std.specs.Prelude.{◌≡◌, length, Ok, Err, Result}
 use Rattle.protocol.specs.Causes.{Cause}
 use Rattle.pdu.specs.Said.{Said, said_data, said_address, said_discard, said_ack}
 use Rattle.wire.specs.declared.fault.WireFault.{WireFault}
+use Rattle.wire.specs.declared.kind.Kind.{Kind}
+use Rattle.wire.specs.declared.kind.Kind.TheVariants as Kinds
 use Rattle.wire.specs.declared.pdus.Pdu.{Pdu}
 use Rattle.wire.specs.declared.pdus.Pdu.TheVariants.{Data, Address, Discard, Ack}
 use Rattle.wire.specs.Faults.{cause_of}
@@ -13,6 +15,12 @@ said_of (Data d) = said_data (data_in d)
 said_of (Address a) = said_address (address_in a)
 said_of (Discard d) = said_discard (discard_in d)
 said_of (Ack a) = said_ack (ack_in a)
+
+abbrev pub kind_in : Pdu → Kind
+kind_in (Data d) = Kinds.Data
+kind_in (Address a) = a.kind
+kind_in (Discard d) = Kinds.Discard
+kind_in (Ack a) = Kinds.Ack
 
 -- There are as many destinations and entries as the counts say.
 abbrev pub Counted : Pdu → Type 0

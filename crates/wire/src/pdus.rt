@@ -1,4 +1,7 @@
 // What a datagram says.
+ghost use Rattle.std.specs.Prelude.{◌≡◌};
+ghost use Rattle.wire.specs.Told.{kind_in};
+
 use crate::kind::Kind;
 use crate::views::{Destinations, Entries};
 
@@ -44,6 +47,20 @@ pub enum Pdu<'a> {
     Address(Address<'a>),
     Discard(Discard),
     Ack(Ack<'a>),
+}
+
+impl Pdu<'_> {
+    // The type of the PDU.
+    pub fn kind(&self) -> Kind
+        ensures value { result ≡ kind_in self.now }
+    {
+        match self {
+            Pdu::Data(_) => Kind::Data,
+            Pdu::Address(address) => address.kind,
+            Pdu::Discard(_) => Kind::Discard,
+            Pdu::Ack(_) => Kind::Ack,
+        }
+    }
 }
 
 // A destination of an Address that is to be written, with its sequence number.
