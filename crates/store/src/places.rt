@@ -7,13 +7,13 @@ ghost use Rattle.protocol.specs.Limits.{most_numbers, most_strings, row_count};
 ghost use Rattle.store.specs.Faults.{causes};
 
 use crate::fault::StoreFault;
-use protocol::{NUMBERS, ROWS};
+use protocol::{NUMBERS, ROWS, is_number};
 
 // Whether a store has a place for a row and a number.
 pub(crate) fn in_bounds(row: u8, number: u16) -> bool
     ensures answer { result ≡ in_bounds row number }
 {
-    row < ROWS && number >= 1 && number <= NUMBERS
+    row < ROWS && is_number(number)
 }
 
 // The place of a row and a number: row after row, each from its number 1 on.
