@@ -7,6 +7,7 @@ ghost use Rattle.protocol.specs.Limits.{most_numbers, most_strings, row_count};
 ghost use Rattle.store.specs.Faults.{causes};
 
 use crate::fault::StoreFault;
+use crate::store::FragmentStore;
 use protocol::{NUMBERS, ROWS, is_number};
 
 // Whether a store has a place for a row and a number.
@@ -144,5 +145,39 @@ pub(crate) fn length<P: Places>(places: &P, row: u8, number: u16) -> u16
         places.length_at(row, number)
     } else {
         0
+    }
+}
+
+impl<P: Places> FragmentStore for P {
+    ghost contents = { P.Places.contents };
+
+    ghost sound = { P.Places.sound };
+
+    fn put(&mut self, row: u8, number: u16, octets: &[u8]) -> Result<(), StoreFault> {
+        put(self, row, number, octets)
+    }
+
+    fn get(&self, row: u8, number: u16, out: &mut [u8]) -> Result<usize, StoreFault> {
+        get(self, row, number, out)
+    }
+
+    fn free(&mut self, row: u8) -> Result<(), StoreFault> {
+        free(self, row)
+    }
+
+    fn length(&self, row: u8, number: u16) -> u16 {
+        length(self, row, number)
+    }
+
+    fn width(&self) -> u16 {
+        Places::width(self)
+    }
+
+    fn limit(&self) -> u16 {
+        Places::limit(self)
+    }
+
+    fn held(&self) -> u16 {
+        Places::held(self)
     }
 }

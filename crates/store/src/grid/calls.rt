@@ -4,11 +4,8 @@ ghost use Rattle.contents.proofs.Gridding.{grid_sound};
 ghost use Rattle.store.specs.Kept.{grid_kept};
 
 use crate::copy::{copy_out, write_string};
-use crate::fault::StoreFault;
 use crate::grid::Grid;
-use crate::places;
 use crate::places::{Places, place_of};
-use crate::store::FragmentStore;
 
 impl Places for Grid {
     ghost contents = { grid_of };
@@ -54,39 +51,5 @@ impl Places for Grid {
         }
         self.lens[place_of(row, number)] = 0;
         self.held -= 1;
-    }
-}
-
-impl FragmentStore for Grid {
-    ghost contents = { grid_of };
-
-    ghost sound = { λ g. grid_sound (grid_kept g) };
-
-    fn put(&mut self, row: u8, number: u16, octets: &[u8]) -> Result<(), StoreFault> {
-        places::put(self, row, number, octets)
-    }
-
-    fn get(&self, row: u8, number: u16, out: &mut [u8]) -> Result<usize, StoreFault> {
-        places::get(self, row, number, out)
-    }
-
-    fn free(&mut self, row: u8) -> Result<(), StoreFault> {
-        places::free(self, row)
-    }
-
-    fn length(&self, row: u8, number: u16) -> u16 {
-        places::length(self, row, number)
-    }
-
-    fn width(&self) -> u16 {
-        <Grid as Places>::width(self)
-    }
-
-    fn limit(&self) -> u16 {
-        <Grid as Places>::limit(self)
-    }
-
-    fn held(&self) -> u16 {
-        <Grid as Places>::held(self)
     }
 }

@@ -6,11 +6,8 @@ ghost use Rattle.contents.proofs.Pooling.{pool_sound};
 ghost use Rattle.store.specs.Kept.{pool_kept};
 
 use crate::copy::{copy_out, write_string};
-use crate::fault::StoreFault;
-use crate::places;
 use crate::places::{Places, place_of};
 use crate::pool::Pool;
-use crate::store::FragmentStore;
 
 impl Pool {
     // Writes a string where none is held, to the free cell on top of the stack.
@@ -76,39 +73,5 @@ impl Places for Pool {
         self.spare[self.depth as usize] = cell;
         self.lens[place] = 0;
         self.depth += 1;
-    }
-}
-
-impl FragmentStore for Pool {
-    ghost contents = { pool_of };
-
-    ghost sound = { λ p. pool_sound (pool_kept p) };
-
-    fn put(&mut self, row: u8, number: u16, octets: &[u8]) -> Result<(), StoreFault> {
-        places::put(self, row, number, octets)
-    }
-
-    fn get(&self, row: u8, number: u16, out: &mut [u8]) -> Result<usize, StoreFault> {
-        places::get(self, row, number, out)
-    }
-
-    fn free(&mut self, row: u8) -> Result<(), StoreFault> {
-        places::free(self, row)
-    }
-
-    fn length(&self, row: u8, number: u16) -> u16 {
-        places::length(self, row, number)
-    }
-
-    fn width(&self) -> u16 {
-        <Pool as Places>::width(self)
-    }
-
-    fn limit(&self) -> u16 {
-        <Pool as Places>::limit(self)
-    }
-
-    fn held(&self) -> u16 {
-        <Pool as Places>::held(self)
     }
 }
