@@ -1,5 +1,5 @@
 -- A row emptied number by number.
-use Rattle.std.proofs.Common.{◌≡◌, ℕ, ◌+◌, ◌-◌, ◌<◌, List, [], ◌∷◌, ◌++◌, length, get_or, drop, set, replicate, sym, ap, ◌∙◌, ap₂, arith}
+use Rattle.std.proofs.Common.{◌≡◌, ℕ, ◌+◌, ◌-◌, ◌<◌, ◌≤◌, List, [], ◌∷◌, ◌++◌, length, get_or, drop, set, replicate, sym, ap, ◌∙◌, ap₂, arith}
 use Rattle.std.proofs.lemmas.List.{append_assoc, append-nil, drop_all, drop_more, get_or-set_same, length-replicate, replicate_more, set_at, set-get_or, set-set}
 use Rattle.protocol.specs.Limits.{most_numbers, row_count}
 use Rattle.contents.specs.Contents.{Contents, Sound, emptied, row_at, vacant, with_row, with_string}
@@ -34,3 +34,13 @@ cleared_all s r i ok hr e =
     (ap (λ (m : ℕ). emptied m (row_at s r)) e
     ∙ ap (λ t. replicate {A = List ℕ} most_numbers [] ++ t) (drop_all most_numbers (row_at s r) (omega (arith, ok.numbers_all r hr)))
     ∙ append-nil (replicate {A = List ℕ} most_numbers []))
+
+-- the same for the number n, which comes after those below it
+pub cleared_number : (s : Contents) (r n : ℕ) → Sound s → r < row_count → 1 ≤ n → n ≤ most_numbers
+    → with_string (with_row s r (emptied (n - 1) (row_at s r))) r n [] ≡ with_row s r (emptied (n + 1 - 1) (row_at s r))
+cleared_number s r n ok hr low high =
+    let a : n - 1 + 1 ≡ n = omega arith in
+    let b : n - 1 + 1 ≡ n + 1 - 1 = omega arith in
+    ap (λ (m : ℕ). with_string (with_row s r (emptied (n - 1) (row_at s r))) r m []) (sym a)
+    ∙ cleared_more s r (n - 1) ok hr (omega arith)
+    ∙ ap (λ (m : ℕ). with_row s r (emptied m (row_at s r))) b

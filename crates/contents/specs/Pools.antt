@@ -1,15 +1,15 @@
 -- What the memory of a pool means. A place has a cell of its own only while it holds a string; the free cells lie in a stack.
-use Rattle.std.specs.Prelude.{◌≡◌, ℕ, ◌+◌, ◌*◌, ◌<◌, List, length, slice_index}
+use Rattle.std.specs.Prelude.{◌≡◌, ℕ, ◌+◌, ◌*◌, ◌<◌, ◌≤◌, List, length, slice_index}
 use Rattle.protocol.specs.Limits.{most_strings}
 use Rattle.contents.specs.Contents.{Contents, total}
-use Rattle.contents.specs.Layout.{store_by, string_by}
+use Rattle.contents.specs.Layout.{Short, Sized, store_by, string_by}
 
 abbrev pub pool_contents : (width limit : ℕ) (bytes cells lens : List ℕ) → Contents
 pool_contents w limit bytes cells lens = store_by w limit (string_by w bytes lens (λ p. slice_index cells p))
 
 -- a width of octets for each cell, a cell and a length for each place, room for each cell in the stack
-abbrev pub Spread : (width limit : ℕ) (bytes cells lens spare : List ℕ) → Type 0
-Spread w limit bytes cells lens spare = (length bytes ≡ limit * w) × (length cells ≡ most_strings) × (length lens ≡ most_strings) × (length spare ≡ limit)
+abbrev pub Spread : (width limit room : ℕ) (bytes cells lens : List ℕ) → Type 0
+Spread w limit room bytes cells lens = (length bytes ≡ limit * w) × (length cells ≡ most_strings) × (length lens ≡ most_strings) × (limit ≤ room)
 
 -- what is held has a cell
 abbrev pub Celled : (limit : ℕ) (cells lens : List ℕ) → Type 0
@@ -34,3 +34,15 @@ Unused depth cells lens spare = (i p : ℕ) → (i < depth) × (0 < slice_index 
 -- the free and the held are all the cells
 abbrev pub Whole : (width limit depth : ℕ) (bytes cells lens : List ℕ) → Type 0
 Whole w limit depth bytes cells lens = depth + total (pool_contents w limit bytes cells lens) ≡ limit
+
+-- what is true of the memory of every pool, whose free cells are those of the stack
+pub record PoolKept (w limit room : ℕ) (bytes cells lens spare : List ℕ) : Type 0 where
+  pub sized : Sized w limit
+  pub spread : Spread w limit room bytes cells lens
+  pub short : Short w lens
+  pub celled : Celled limit cells lens
+  pub apart : Apart cells lens
+  pub stocked : Stocked limit (length spare) spare
+  pub distinct : Distinct (length spare) spare
+  pub unused : Unused (length spare) cells lens spare
+  pub whole : Whole w limit (length spare) bytes cells lens

@@ -1,2 +1,2 @@
 pub mod Causes
-mod Lent
+mod Slots

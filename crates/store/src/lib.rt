@@ -2,10 +2,11 @@
 #![tactic(auto)]
 
 mod any;
-mod copy;
+mod cells;
 mod fault;
 mod grid;
 mod making;
+mod place;
 mod places;
 mod pool;
 mod store;

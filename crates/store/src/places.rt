@@ -1,32 +1,13 @@
 // What every store in memory does alike. Each store says how it reads and writes one place; its calls are made of that here.
-ghost use Rattle.std.specs.Prelude.{◌≡◌, ◌<◌, ◌≤◌, true, [], length, is_ok, if◌then◌else◌, ◌≢◌};
-ghost use Rattle.contents.specs.Contents.{Contents, Sound, emptied, fits, in_bounds, row_at, string_at, total, vacant, with_row, with_string};
-ghost use Rattle.contents.specs.Answers.{free_answer, fronted, get_answer, put_answer};
-ghost use Rattle.contents.specs.Layout.{place_of};
-ghost use Rattle.protocol.specs.Limits.{most_numbers, most_strings, row_count};
-ghost use Rattle.store.specs.Faults.{causes};
+ghost use Rattle.std.specs.Prelude.{◌≡◌, true, [], length, ◌≢◌};
+ghost use Rattle.contents.specs.Contents.{Contents, Sound, fits, string_at, total, with_string};
 
 use crate::fault::StoreFault;
+use crate::place::Place;
 use crate::store::FragmentStore;
-use protocol::{NUMBERS, ROWS, is_number};
+use protocol::{NUMBERS, ROWS};
 
-// Whether a store has a place for a row and a number.
-pub(crate) fn in_bounds(row: u8, number: u16) -> bool
-    ensures answer { result ≡ in_bounds row number }
-{
-    row < ROWS && is_number(number)
-}
-
-// The place of a row and a number: row after row, each from its number 1 on.
-pub(crate) fn place_of(row: u8, number: u16) -> usize
-    requires { in_bounds row number ≡ true }
-    ensures place { result ≡ place_of row number }
-    ensures low { result < most_strings }
-{
-    row as usize * NUMBERS as usize + (number as usize - 1)
-}
-
-// A store with a place for each row and number. What a method requires, the calls below have tested.
+// What a method requires, the calls below have tested.
 pub(crate) trait Places {
     ghost contents: { Self → Contents };
 
@@ -39,113 +20,29 @@ pub(crate) trait Places {
     fn held(&self) -> u16
         ensures answer { result ≡ total (contents self.now) };
 
-    // The length of the string at a place, 0 if none is held.
-    fn length_at(&self, row: u8, number: u16) -> u16
-        requires { in_bounds row number ≡ true }
-        ensures answer { result ≡ length (string_at (contents self.now) row number) };
-
-    // Copies the string at a place to the front of the buffer.
-    fn copy_to(&self, row: u8, number: u16, out: &mut [u8])
-        requires bounds { in_bounds row number ≡ true }
-        requires some { 0 < length (string_at (contents self.now) row number) }
-        requires room { length (string_at (contents self.now) row number) ≤ length out.old }
-        ensures buffer { out.new ≡ fronted (string_at (contents self.now) row number) out.old };
+    // The string at a place, empty if none is held.
+    fn string(&self, place: Place) -> &[u8]
+        ensures answer { result.now ≡ string_at (contents self.now) place.row place.number };
 
     // Writes a string where none is held.
-    fn fill(&mut self, row: u8, number: u16, octets: &[u8])
-        requires bounds { in_bounds row number ≡ true }
+    fn fill(&mut self, place: Place, octets: &[u8])
         requires fits { fits (contents self.old) octets.now ≡ true }
-        requires none { length (string_at (contents self.old) row number) ≡ 0 }
+        requires none { length (string_at (contents self.old) place.row place.number) ≡ 0 }
         requires room { total (contents self.old) ≢ (contents self.old).limit }
-        ensures after { contents self.new ≡ with_string (contents self.old) row number octets.now };
+        ensures after { contents self.new ≡ with_string (contents self.old) place.row place.number octets.now };
 
     // Removes the string at a place, if one is held there.
-    fn release(&mut self, row: u8, number: u16)
-        requires { in_bounds row number ≡ true }
-        ensures after { contents self.new ≡ with_string (contents self.old) row number [] };
+    fn release(&mut self, place: Place)
+        ensures after { contents self.new ≡ with_string (contents self.old) place.row place.number [] };
 
     ghost sound: { (s : Self) → Sound (contents s) };
 }
 
-// The call `put`: the refusals in their order, then the string is written.
-pub(crate) fn put<P: Places>(
-    places: &mut P,
-    row: u8,
-    number: u16,
-    octets: &[u8],
-) -> Result<(), StoreFault>
-    ensures answer { causes result ≡ put_answer (P.Places.contents places.old) row number octets.now }
-    ensures after { P.Places.contents places.new ≡ (if is_ok result then with_string (P.Places.contents places.old) row number octets.now else P.Places.contents places.old) }
+// The length of the string at a place.
+fn length_at<P: Places>(places: &P, place: Place) -> u16
+    ensures answer { result ≡ length (string_at (P.Places.contents places.now) place.row place.number) }
 {
-    let width = places.width();
-    if octets.is_empty() || octets.len() > width as usize {
-        return Err(StoreFault::Fragment { width });
-    }
-    let limit = places.limit();
-    if places.held() == limit {
-        return Err(StoreFault::Full { limit });
-    }
-    if !in_bounds(row, number) || places.length_at(row, number) > 0 {
-        return Err(StoreFault::Place { row, number });
-    }
-    places.fill(row, number, octets);
-    Ok(())
-}
-
-// The call `get`.
-pub(crate) fn get<P: Places>(
-    places: &P,
-    row: u8,
-    number: u16,
-    out: &mut [u8],
-) -> Result<usize, StoreFault>
-    ensures answer { causes result ≡ get_answer (P.Places.contents places.now) row number (length out.old) }
-    ensures buffer { out.new ≡ (if is_ok result then fronted (string_at (P.Places.contents places.now) row number) out.old else out.old) }
-{
-    let needed = length(places, row, number);
-    if needed == 0 {
-        return Err(StoreFault::Place { row, number });
-    }
-    if out.len() < needed as usize {
-        return Err(StoreFault::Buffer { needed });
-    }
-    places.copy_to(row, number, out);
-    Ok(needed as usize)
-}
-
-// Removes the strings of the numbers 1 to `count` of a row.
-fn release_to<P: Places>(places: &mut P, row: u8, count: u16)
-    requires row { row < row_count }
-    requires count { count ≤ most_numbers }
-    ensures after { P.Places.contents places.new ≡ with_row (P.Places.contents places.old) row (emptied count (row_at (P.Places.contents places.old) row)) }
-    ensures all { count ≡ most_numbers → P.Places.contents places.new ≡ with_row (P.Places.contents places.old) row vacant }
-{
-    for i in 0..count {
-        places.release(row, i + 1);
-    }
-}
-
-// The call `free`.
-pub(crate) fn free<P: Places>(places: &mut P, row: u8) -> Result<(), StoreFault>
-    ensures answer { causes result ≡ free_answer row }
-    ensures after { P.Places.contents places.new ≡ (if is_ok result then with_row (P.Places.contents places.old) row vacant else P.Places.contents places.old) }
-{
-    if row >= ROWS {
-        return Err(StoreFault::Place { row, number: 0 });
-    }
-    release_to(places, row, NUMBERS);
-    Ok(())
-}
-
-// The call `length`.
-pub(crate) fn length<P: Places>(places: &P, row: u8, number: u16) -> u16
-    ensures answer { result ≡ length (string_at (P.Places.contents places.now) row number) }
-{
-    if in_bounds(row, number) {
-        places.length_at(row, number)
-    } else {
-        0
-    }
+    places.string(place).len() as u16
 }
 
 impl<P: Places> FragmentStore for P {
@@ -154,19 +51,53 @@ impl<P: Places> FragmentStore for P {
     ghost sound = { P.Places.sound };
 
     fn put(&mut self, row: u8, number: u16, octets: &[u8]) -> Result<(), StoreFault> {
-        put(self, row, number, octets)
+        let width = Places::width(self);
+        if octets.is_empty() || octets.len() > width as usize {
+            return Err(StoreFault::Fragment { width });
+        }
+        let limit = Places::limit(self);
+        if Places::held(self) == limit {
+            return Err(StoreFault::Full { limit });
+        }
+        let fault = StoreFault::Place { row, number };
+        let place = Place::new(row, number).ok_or(fault)?;
+        if !self.string(place).is_empty() {
+            return Err(fault);
+        }
+        self.fill(place, octets);
+        Ok(())
     }
 
+    #[tactic(auto, using(contents::proofs::Strings::string_out))]
     fn get(&self, row: u8, number: u16, out: &mut [u8]) -> Result<usize, StoreFault> {
-        get(self, row, number, out)
+        let fault = StoreFault::Place { row, number };
+        let place = Place::new(row, number).ok_or(fault)?;
+        let string = self.string(place);
+        if string.is_empty() {
+            return Err(fault);
+        }
+        if out.len() < string.len() {
+            return Err(StoreFault::Buffer {
+                needed: length_at(self, place),
+            });
+        }
+        out[..string.len()].copy_from_slice(string);
+        Ok(string.len())
     }
 
     fn free(&mut self, row: u8) -> Result<(), StoreFault> {
-        free(self, row)
+        if row >= ROWS {
+            return Err(StoreFault::Place { row, number: 0 });
+        }
+        for number in 1..=NUMBERS {
+            self.release(Place { row, number });
+        }
+        Ok(())
     }
 
+    #[tactic(auto, using(contents::proofs::Strings::string_out))]
     fn length(&self, row: u8, number: u16) -> u16 {
-        length(self, row, number)
+        Place::new(row, number).map_or(0, |place| length_at(self, place))
     }
 
     fn width(&self) -> u16 {

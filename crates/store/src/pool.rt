@@ -1,30 +1,23 @@
 // A store of a fixed number of cells, any of which serves any row and number.
-ghost use Rattle.contents.specs.Layout.{Short, Sized};
-ghost use Rattle.contents.specs.Pools.{Apart, Celled, Distinct, Spread, Stocked, Unused, Whole};
+ghost use Rattle.std.specs.Prelude.{vec_capacity};
+ghost use Rattle.contents.specs.Pools.{PoolKept};
+ghost use Rattle.store.specs.Slots.{cells_of, lens_of};
+
+use crate::cells::Cells;
+use crate::pool::slot::Slot;
 
 pub mod calls;
 mod making;
+pub(crate) mod slot;
 
 #[derive(Drop)]
 pub struct Pool {
-    width: u16,
     limit: u16,
-    // The octets, a width for each cell.
-    bytes: Vec<u8>,
-    // The cell of each place where a string is held.
-    cells: Vec<u16>,
-    // The length of the string at each place, 0 where none is held.
-    lens: Vec<u16>,
-    // The free cells: the first `depth` of these.
+    // As many as the limit.
+    cells: Cells,
+    // What each place holds.
+    slots: Vec<Option<Slot>>,
+    // The free cells, a stack with room for them all: a free never allocates.
     spare: Vec<u16>,
-    depth: u16,
-    ghost sized: { Sized width limit },
-    ghost spread: { Spread width limit bytes.items cells.items lens.items spare.items },
-    ghost short: { Short width lens.items },
-    ghost celled: { Celled limit cells.items lens.items },
-    ghost apart: { Apart cells.items lens.items },
-    ghost stocked: { Stocked limit depth spare.items },
-    ghost distinct: { Distinct depth spare.items },
-    ghost unused: { Unused depth cells.items lens.items spare.items },
-    ghost whole: { Whole width limit depth bytes.items cells.items lens.items },
+    ghost kept: { PoolKept cells.width limit (vec_capacity spare) cells.bytes.items (cells_of slots.items) (lens_of slots.items) spare.items },
 }

@@ -5,9 +5,10 @@ ghost use Rattle.protocol.specs.Limits.{most_strings};
 ghost use Rattle.store.specs.Making.{Filling, Making};
 ghost use Rattle.store.specs.Meanings.{grid_of};
 
+use crate::cells::Cells;
 use crate::fault::StoreFault;
 use crate::grid::Grid;
-use crate::making::{check_sizes, zeros};
+use crate::making::check_sizes;
 use protocol::MOST_STRINGS;
 use std::alloc::{AllocError, Global};
 
@@ -17,11 +18,10 @@ impl Grid {
         requires { width_fits width ≡ true }
         ensures made { IfOk result (λ g. grid_of g ≡ empty_store width most_strings) }
     {
-        let bytes = Vec::from_elem(heap, 0u8, MOST_STRINGS as usize * width as usize)?;
-        let lens = zeros(heap, MOST_STRINGS as usize)?;
+        let cells = Cells::new(heap, width, MOST_STRINGS)?;
+        let lens = Vec::from_elem(heap, 0u16, MOST_STRINGS as usize)?;
         Ok(Grid {
-            width,
-            bytes,
+            cells,
             lens,
             held: 0,
         })
@@ -32,12 +32,9 @@ impl Grid {
         ensures answer { Making grid_of width most_strings result }
     {
         check_sizes(width, MOST_STRINGS)?;
-        match Grid::with_width(heap, width) {
-            Ok(grid) => Ok(grid),
-            Err(_) => Err(StoreFault::Size {
-                value: MOST_STRINGS,
-            }),
-        }
+        Grid::with_width(heap, width).map_err(|_| StoreFault::Size {
+            value: MOST_STRINGS,
+        })
     }
 
     // Fills a place with an empty grid. A refusal leaves the place as it was.

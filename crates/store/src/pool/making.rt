@@ -4,8 +4,9 @@ ghost use Rattle.contents.specs.Contents.{empty_store, limit_fits, width_fits};
 ghost use Rattle.store.specs.Making.{Filling, Making};
 ghost use Rattle.store.specs.Meanings.{pool_of};
 
+use crate::cells::Cells;
 use crate::fault::StoreFault;
-use crate::making::{check_sizes, zeros};
+use crate::making::check_sizes;
 use crate::pool::Pool;
 use protocol::MOST_STRINGS;
 use std::alloc::{AllocError, Global};
@@ -24,18 +25,14 @@ impl Pool {
         requires limit { limit_fits limit ≡ true }
         ensures made { IfOk result (λ p. pool_of p ≡ empty_store width limit) }
     {
-        let bytes = Vec::from_elem(heap, 0u8, limit as usize * width as usize)?;
-        let cells = zeros(heap, MOST_STRINGS as usize)?;
-        let lens = zeros(heap, MOST_STRINGS as usize)?;
+        let cells = Cells::new(heap, width, limit)?;
+        let slots = Vec::from_elem(heap, None, MOST_STRINGS as usize)?;
         let spare = numbers_below(heap, limit)?;
         Ok(Pool {
-            width,
             limit,
-            bytes,
             cells,
-            lens,
+            slots,
             spare,
-            depth: limit,
         })
     }
 
@@ -44,10 +41,7 @@ impl Pool {
         ensures answer { Making pool_of width limit result }
     {
         check_sizes(width, limit)?;
-        match Pool::with_sizes(heap, width, limit) {
-            Ok(pool) => Ok(pool),
-            Err(_) => Err(StoreFault::Size { value: limit }),
-        }
+        Pool::with_sizes(heap, width, limit).map_err(|_| StoreFault::Size { value: limit })
     }
 
     // Fills a place with an empty pool. A refusal leaves the place as it was.

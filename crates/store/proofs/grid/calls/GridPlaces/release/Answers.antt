@@ -1,22 +1,28 @@
-use Rattle.std.proofs.Common.{sym, arith}
-use Rattle.contents.proofs.Gridding.{grid_less, grid_release_after, grid_release_keeps}
-use Rattle.contents.proofs.Strings.{string_put_none}
-use Rattle.store.specs.Meanings.{grid_of}
+use Rattle.contents.proofs.Gridding.{grid_less, grid_none, grid_release_after, grid_release_keeps}
 use Rattle.store.specs.Kept.{grid_kept}
 use Rattle.store.proofs.grid.calls.GridPlaces.release.Goals as goal
 
-pub returns-then-length_at-eq0 : goal.returns-then-length_at-eq0
-returns-then-length_at-eq0 c = record { after = sym (string_put_none (grid_of c.args.self.now) c.args.row c.args.number c.requires (omega arith)) }
-
 pub overflow_sub-self : goal.overflow_sub-self
-overflow_sub-self c = omega (arith, grid_less (grid_kept c.args.self.now) c.args.row c.args.number c.place_of.result c.requires c.place_of.ensures.place (omega arith))
+overflow_sub-self c =
+    grid_less (grid_kept c.args.self.now) c.args.place.row c.args.place.number _ _ c.args.place.bounded c.index-index.ensures.place c.index.ensures c.if-index-gt0.true
 
 pub invariant_of-self : goal.invariant_of-self
-invariant_of-self c =
-    let k = grid_release_keeps (grid_kept c.args.self.now) c.args.row c.args.number c.place_of.result c.requires c.place_of.ensures.place (omega arith) in
-    record { sized = k.sized; laid = k.laid; short = k.short; counted = k.counted }
+invariant_of-self c = record {
+  kept =
+      grid_release_keeps (grid_kept c.args.self.now) c.args.place.row c.args.place.number _ _ c.args.place.bounded c.index-index.ensures.place c.index.ensures
+      c.if-index-gt0.true;
+}
 
-pub returns : goal.returns
-returns c = record {
-  after = grid_release_after (grid_kept c.args.self.now) c.args.row c.args.number c.place_of.result c.requires c.place_of.ensures.place (omega arith);
+pub returns-then-index-gt0 : goal.returns-then-index-gt0
+returns-then-index-gt0 c = record {
+  after =
+      grid_release_after (grid_kept c.args.self.now) c.args.place.row c.args.place.number _ _ c.args.place.bounded c.index-index.ensures.place c.index.ensures
+      c.if-index-gt0.true;
+}
+
+pub returns-else-index-gt0 : goal.returns-else-index-gt0
+returns-else-index-gt0 c = record {
+  after =
+      grid_none (grid_kept c.args.self.now) c.args.place.row c.args.place.number _ _ c.args.place.bounded c.index-index.ensures.place c.index.ensures
+      c.if-index-gt0.false;
 }

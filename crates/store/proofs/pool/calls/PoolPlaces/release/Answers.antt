@@ -1,38 +1,35 @@
-use Rattle.std.proofs.Common.{sym, arith}
-use Rattle.contents.proofs.Pooling.{pool_less, pool_release_after, pool_release_keeps}
+use Rattle.std.proofs.Common.{◌≡◌, ◌<◌, ◌++◌, ◌∷◌, [], vec_capacity, vec_len, sym, ap, ap₂, ◌∙◌, arith, rules}
 use Rattle.contents.proofs.Strings.{string_put_none}
-use Rattle.store.specs.Meanings.{pool_of}
+use Rattle.store.proofs.Slots.{slot_less, slot_still, slot_taken, slot_taken_keeps}
 use Rattle.store.specs.Kept.{pool_kept}
+use Rattle.store.specs.Meanings.{pool_of}
 use Rattle.store.proofs.pool.calls.PoolPlaces.release.Goals as goal
 
-pub returns-then-length_at-eq0 : goal.returns-then-length_at-eq0
-returns-then-length_at-eq0 c = record { after = sym (string_put_none (pool_of c.args.self.now) c.args.row c.args.number c.requires (omega arith)) }
-
-pub index_mut-requires : goal.index_mut-requires
-index_mut-requires c =
-    let d = pool_less (pool_kept c.args.self.now) c.args.row c.args.number c.place_of-place.result c.index-cell.result.now c.requires
-    c.place_of-place.ensures.place (omega arith) c.index-cell.ensures in
-    omega (arith, c.args.self.now.spread.3)
+pub unwrap-requires : goal.unwrap-requires
+unwrap-requires c =
+    let d = slot_less c.args.self.now c.args.place c.index.result c.index.ensures.place _ c.index_mut.ensures.value c.in-Some.slot (sym c.take.ensures.value ∙ c.in-Some.is) in
+    c.push.ensures.succeeds (omega (arith, d, (pool_kept c.args.self.now).spread.3, c.args.self.now.spare.ok.0))
 
 pub invariant_of-self : goal.invariant_of-self
 invariant_of-self c =
-    let k = pool_release_keeps (pool_kept c.args.self.now) c.args.row c.args.number c.place_of-place.result c.index-cell.result.now c.requires
-    c.place_of-place.ensures.place (omega arith) c.index-cell.ensures in
+    let d = slot_less c.args.self.now c.args.place c.index.result c.index.ensures.place _ c.index_mut.ensures.value c.in-Some.slot (sym c.take.ensures.value ∙ c.in-Some.is) in
+    let ok = c.push.ensures.succeeds (omega (arith, d, (pool_kept c.args.self.now).spread.3, c.args.self.now.spare.ok.0)) in
+    let top : c.push.new.self.items ≡ c.args.self.now.spare.items ++ c.in-Some.slot.cell ∷ [] = search rules in
     record {
-      sized = k.sized;
-      spread = k.spread;
-      short = k.short;
-      celled = k.celled;
-      apart = k.apart;
-      stocked = k.stocked;
-      distinct = k.distinct;
-      unused = k.unused;
-      whole = k.whole;
+      kept =
+          slot_taken_keeps c.args.self.now c.args.place c.index.result c.index.ensures.place _ c.index_mut.ensures.value c.in-Some.slot
+          (sym c.take.ensures.value ∙ c.in-Some.is) _ c.take.ensures.after _ _ top (omega (arith, (pool_kept c.args.self.now).spread.3, c.push.ensures.capacity));
     }
 
-pub returns : goal.returns
-returns c = record {
+pub returns-in-Some : goal.returns-in-Some
+returns-in-Some c = record {
   after =
-      pool_release_after (pool_kept c.args.self.now) c.args.row c.args.number c.place_of-place.result c.index-cell.result.now c.requires
-      c.place_of-place.ensures.place (omega arith) c.index-cell.ensures;
+      slot_taken c.args.self.now c.args.place c.index.result c.index.ensures.place _ c.index_mut.ensures.value c.in-Some.slot
+      (sym c.take.ensures.value ∙ c.in-Some.is) _ c.take.ensures.after;
+}
+
+pub returns-in_default : goal.returns-in_default
+returns-in_default c = record {
+  after =
+      slot_still c.args.self.now c.args.place c.index.result c.index.ensures.place _ c.index_mut.ensures.value _ (sym c.take.ensures.value ∙ c.in_default.is) c.take.ensures.after;
 }
