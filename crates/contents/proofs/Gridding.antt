@@ -30,6 +30,9 @@ module _ {w held : ℕ} {bytes lens : List ℕ} (k : GridKept w bytes lens held)
       (λ p. omega (arith, string_length w most_strings most_strings bytes lens (λ q. q) k.laid.0 k.short celled p, k.short p))
       (total_by w most_strings (string_by w bytes lens (λ p. p)))
 
+  pub grid_held : held ≤ most_strings
+  grid_held = omega (arith, k.counted, grid_sound.below)
+
   -- a string written to its place
   module _ (x : List ℕ) (r n p : ℕ) (h : in_bounds r n ≡ true) (fit : fits (grid_contents w bytes lens) x ≡ true) (e : p ≡ place_of r n)
       (none : length (string_at (grid_contents w bytes lens) r n) ≡ 0) where
@@ -59,6 +62,10 @@ module _ {w held : ℕ} {bytes lens : List ℕ} (k : GridKept w bytes lens held)
         counted = omega (arith, ap total after, total_put (grid_contents w bytes lens) r n x grid_sound h none short_string.0, k.counted);
       }
 
+  -- a string erased
+  pub grid_release_after : (r n p : ℕ) → in_bounds r n ≡ true → p ≡ place_of r n → grid_contents w bytes (set lens p 0) ≡ with_string (grid_contents w bytes lens) r n []
+  grid_release_after r n p h e = erased w most_strings bytes lens (λ q. q) r n p h e (omega (arith, place_low r n h, k.laid.1))
+
   -- the length m of the string at a place
   module _ (r n p m : ℕ) (h : in_bounds r n ≡ true) (e : p ≡ place_of r n) (own : m ≡ get_or lens p m) where
     is_length : m ≡ get_or lens p 0
@@ -83,15 +90,12 @@ module _ {w held : ℕ} {bytes lens : List ℕ} (k : GridKept w bytes lens held)
       pub grid_less : 1 ≤ held
       grid_less = omega (arith, less)
 
-      pub grid_release_after : grid_contents w bytes (set lens p 0) ≡ with_string (grid_contents w bytes lens) r n []
-      grid_release_after = erased w most_strings bytes lens (λ q. q) r n p h e (omega (arith, place_low r n h, k.laid.1))
-
       pub grid_release_keeps : GridKept w bytes (set lens p 0) (held - 1)
       grid_release_keeps = record {
         sized = k.sized;
         laid = (k.laid.0, length-set lens p 0 ∙ k.laid.1);
         short = set_short w lens p 0 k.short (omega arith);
-        counted = omega (arith, ap total grid_release_after, less);
+        counted = omega (arith, ap total (grid_release_after r n p h e), less);
       }
 
 module _ (w : ℕ) (bytes lens : List ℕ) (el : lens ≡ replicate most_strings 0) where

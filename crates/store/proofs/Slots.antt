@@ -1,7 +1,7 @@
 -- The steps of a pool, told of its slots.
-use Rattle.std.proofs.Common.{◌≡◌, ℕ, zero, suc, ◌+◌, ◌*◌, ◌<◌, ◌≤◌, true, ◌≢◌, List, [], ◌∷◌, ◌++◌, Option, Some, None, length, map, get_or, take, drop, set, replicate, vec_capacity, vec_items, sym, refl, ap, ◌∙◌, ap₂, arith}
+use Rattle.std.proofs.Common.{◌≡◌, ℕ, zero, suc, ◌+◌, ◌*◌, ◌<◌, ◌≤◌, true, ◌≢◌, ◌⊎◌, List, [], ◌∷◌, ◌++◌, Option, Some, None, length, map, get_or, take, drop, set, replicate, vec_capacity, vec_items, sym, refl, ap, ◌∙◌, ap₂, inl, inr, arith}
 use lib.Seq.{paste}
-use Rattle.std.proofs.lemmas.List.{get_or-map, length-map, map-set, set-get_or}
+use Rattle.std.proofs.lemmas.List.{get_or-map, length-map, length-replicate, map-set, set-get_or}
 use Rattle.protocol.specs.Limits.{most_strings}
 use Rattle.contents.specs.Contents.{fits, string_at, total, with_string}
 use Rattle.contents.specs.Layout.{place_of}
@@ -16,14 +16,23 @@ use Rattle.store.specs.Kept.{pool_kept}
 use Rattle.store.specs.Meanings.{pool_of}
 use Rattle.store.specs.Slots.{cell_of, cells_of, len_of, lens_of}
 
-pub map-replicate : {X Y : Type 0} (f : X → Y) (n : ℕ) (x : X) → map f (replicate n x) ≡ replicate n (f x)
+map-replicate : {X Y : Type 0} (f : X → Y) (n : ℕ) (x : X) → map f (replicate n x) ≡ replicate n (f x)
 map-replicate f zero x = refl
 map-replicate f (suc n) x = ap (λ t. f x ∷ t) (map-replicate f n x)
 
-module _ (s : Pool) (x : Place) (i : ℕ) (e : i ≡ place_of x.row x.number) where
-  slots : List (Option Slot)
-  slots = vec_items s.slots
+pub none_or : (o : Option Slot) → (o ≡ None) ⊎ ((t : Slot) × (o ≡ Some t))
+none_or None = inl refl
+none_or (Some t) = inr (t, refl)
 
+-- slots that are all empty
+module _ (all : List (Option Slot)) (e : all ≡ replicate most_strings None) where
+  pub no_lens : lens_of all ≡ replicate most_strings 0
+  no_lens = ap lens_of e ∙ map-replicate len_of most_strings None
+
+  pub many_cells : length (cells_of all) ≡ most_strings
+  many_cells = length-map all cell_of ∙ ap length e ∙ length-replicate {A = Option Slot} most_strings None
+
+module _ (s : Pool) (x : Place) (i : ℕ) (e : i ≡ place_of x.row x.number) where
   within : i < length (vec_items s.slots)
   within = omega (arith, place_low x.row x.number x.bounded, (pool_kept s).spread.1, length-map (vec_items s.slots) cell_of)
 
@@ -66,7 +75,7 @@ module _ (s : Pool) (x : Place) (i : ℕ) (e : i ≡ place_of x.row x.number) wh
           ap (λ (m : ℕ). take m (drop (t.cell * s.cells.width) (vec_items s.cells.bytes))) len
           ∙ pool_string (pool_kept s) x.row x.number i t.cell x.bounded e long cell
 
-      pub slot_less : length (vec_items s.spare) < s.limit
+      pub slot_less : length (vec_items s.spare.cells) < s.limit
       slot_less = pool_less (pool_kept s) x.row x.number i t.cell x.bounded e long cell
 
       -- taken, and its cell put on the stack
@@ -81,14 +90,14 @@ module _ (s : Pool) (x : Place) (i : ℕ) (e : i ≡ place_of x.row x.number) wh
             ≡ with_string (pool_of s) x.row x.number []
         slot_taken = rw (cells', lens') (pool_release_after (pool_kept s) x.row x.number i t.cell x.bounded e long cell)
 
-        pub slot_taken_keeps : (spare' : List ℕ) (room' : ℕ) → spare' ≡ vec_items s.spare ++ t.cell ∷ [] → s.limit ≤ room'
+        pub slot_taken_keeps : (spare' : List ℕ) (room' : ℕ) → spare' ≡ vec_items s.spare.cells ++ t.cell ∷ [] → s.limit ≤ room'
             → PoolKept s.cells.width s.limit room' (vec_items s.cells.bytes) (cells_of (set (vec_items s.slots) i o')) (lens_of (set (vec_items s.slots) i o')) spare'
         slot_taken_keeps spare' room' top roomy =
             rw (cells', lens') (pool_release_keeps (pool_kept s) x.row x.number i t.cell x.bounded e long cell spare' room' top roomy)
 
   -- a string written to a free cell, and its slot noted
   module _ (octets : List ℕ) (t : Slot) (rest : List ℕ) (fit : fits (pool_of s) octets ≡ true) (none : length (string_at (pool_of s) x.row x.number) ≡ 0)
-      (top : vec_items s.spare ≡ rest ++ t.cell ∷ []) (all : t.len ≡ length octets) (w' : ℕ) (bytes' : List ℕ) (ew : w' ≡ s.cells.width)
+      (top : vec_items s.spare.cells ≡ rest ++ t.cell ∷ []) (all : t.len ≡ length octets) (w' : ℕ) (bytes' : List ℕ) (ew : w' ≡ s.cells.width)
       (eb : bytes' ≡ paste (vec_items s.cells.bytes) (t.cell * s.cells.width) octets (length octets)) where
     noted : set (lens_of (vec_items s.slots)) i (length octets) ≡ lens_of (set (vec_items s.slots) i (Some t))
     noted = ap (set (lens_of (vec_items s.slots)) i) (sym all) ∙ sym (map-set len_of (vec_items s.slots) i (Some t))

@@ -15,7 +15,7 @@ use Rattle.store.specs.Slots.{cells_of, lens_of}
 pub grid_kept : (g : Grid) → GridKept g.cells.width (vec_items g.cells.bytes) (vec_items g.lens) g.held
 grid_kept g = g.kept
 
-pub pool_kept : (p : Pool) → PoolKept p.cells.width p.limit (vec_capacity p.spare) (vec_items p.cells.bytes) (cells_of (vec_items p.slots)) (lens_of (vec_items p.slots)) (vec_items p.spare)
+pub pool_kept : (p : Pool) → PoolKept p.cells.width p.limit (vec_capacity p.spare.cells) (vec_items p.cells.bytes) (cells_of (vec_items p.slots)) (lens_of (vec_items p.slots)) (vec_items p.spare.cells)
 pool_kept p = p.kept
 
 pub any_sound : (s : AnyStore) → Sound (any_of s)

@@ -5,10 +5,12 @@ ghost use Rattle.store.specs.Slots.{cells_of, lens_of};
 
 use crate::cells::Cells;
 use crate::pool::slot::Slot;
+use crate::pool::spare::Spare;
 
 pub mod calls;
 mod making;
-pub(crate) mod slot;
+mod slot;
+mod spare;
 
 #[derive(Drop)]
 pub struct Pool {
@@ -17,7 +19,7 @@ pub struct Pool {
     cells: Cells,
     // What each place holds.
     slots: Vec<Option<Slot>>,
-    // The free cells, a stack with room for them all: a free never allocates.
-    spare: Vec<u16>,
-    ghost kept: { PoolKept cells.width limit (vec_capacity spare) cells.bytes.items (cells_of slots.items) (lens_of slots.items) spare.items },
+    // The cells that no place has.
+    spare: Spare,
+    ghost kept: { PoolKept cells.width limit (vec_capacity spare.cells) cells.bytes.items (cells_of slots.items) (lens_of slots.items) spare.cells.items },
 }

@@ -24,18 +24,20 @@ impl Places for Grid {
         self.held
     }
 
+    #[tactic(auto, using(contents::proofs::Gridding::grid_string))]
     fn string(&self, place: Place) -> &[u8] {
         let index = place.index();
         self.cells.front(index, self.lens[index])
     }
 
+    #[tactic(auto, using(contents::proofs::Gridding::grid_held, contents::proofs::Gridding::grid_put_after))]
     fn fill(&mut self, place: Place, octets: &[u8]) {
         let index = place.index();
-        self.cells.write(index, octets);
-        self.lens[index] = octets.len() as u16;
+        self.lens[index] = self.cells.write(index, octets);
         self.held += 1;
     }
 
+    #[tactic(auto, using(contents::proofs::Gridding::grid_less, contents::proofs::Gridding::grid_none, contents::proofs::Gridding::grid_release_after))]
     fn release(&mut self, place: Place) {
         let index = place.index();
         if self.lens[index] > 0 {

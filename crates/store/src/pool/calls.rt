@@ -25,6 +25,7 @@ impl Places for Pool {
         self.limit - self.spare.len() as u16
     }
 
+    #[tactic(auto, using(crate::proofs::Slots::slot_none, crate::proofs::Slots::slot_room, crate::proofs::Slots::slot_string))]
     fn string(&self, place: Place) -> &[u8] {
         match self.slots[place.index()] {
             Some(slot) => self.cells.front(slot.cell as usize, slot.len),
@@ -32,18 +33,17 @@ impl Places for Pool {
         }
     }
 
+    #[tactic(auto, using(contents::proofs::Pooling::pool_spare))]
     fn fill(&mut self, place: Place, octets: &[u8]) {
-        let cell = self.spare.pop().unwrap();
-        self.cells.write(cell as usize, octets);
-        self.slots[place.index()] = Some(Slot {
-            cell,
-            len: octets.len() as u16,
-        });
+        let cell = self.spare.take();
+        let len = self.cells.write(cell as usize, octets);
+        self.slots[place.index()] = Some(Slot { cell, len });
     }
 
+    #[tactic(auto, using(crate::proofs::Slots::slot_less, crate::proofs::Slots::slot_still, crate::proofs::Slots::slot_taken))]
     fn release(&mut self, place: Place) {
         if let Some(slot) = self.slots[place.index()].take() {
-            self.spare.push(slot.cell).unwrap();
+            self.spare.give(slot.cell);
         }
     }
 }

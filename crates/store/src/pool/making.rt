@@ -1,5 +1,5 @@
 // Making a pool.
-ghost use Rattle.std.specs.Prelude.{◌≡◌, ℕ, ◌<◌, true, IfOk, vec_len, slice_index};
+ghost use Rattle.std.specs.Prelude.{◌≡◌, true, IfOk};
 ghost use Rattle.contents.specs.Contents.{empty_store, limit_fits, width_fits};
 ghost use Rattle.store.specs.Making.{Filling, Making};
 ghost use Rattle.store.specs.Meanings.{pool_of};
@@ -8,15 +8,9 @@ use crate::cells::Cells;
 use crate::fault::StoreFault;
 use crate::making::check_sizes;
 use crate::pool::Pool;
+use crate::pool::spare::Spare;
 use protocol::MOST_STRINGS;
 use std::alloc::{AllocError, Global};
-
-// The numbers below n, rising.
-fn numbers_below(heap: Global, n: u16) -> Result<Vec<u16>, AllocError>
-    ensures made { IfOk result (λ v. (vec_len v ≡ n) × ((k : ℕ) → k < n → slice_index v.items k ≡ k)) }
-{
-    (0..n).collect(heap)
-}
 
 impl Pool {
     // An empty pool, once its width and its limit are checked.
@@ -27,7 +21,7 @@ impl Pool {
     {
         let cells = Cells::new(heap, width, limit)?;
         let slots = Vec::from_elem(heap, None, MOST_STRINGS as usize)?;
-        let spare = numbers_below(heap, limit)?;
+        let spare = Spare::new(heap, limit)?;
         Ok(Pool {
             limit,
             cells,
