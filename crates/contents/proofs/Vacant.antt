@@ -1,7 +1,7 @@
 -- A row and a store that hold nothing.
 use Rattle.std.proofs.Common.{◌≡◌, ℕ, zero, suc, ◌<◌, cond, List, [], length, get_or, replicate, sum_by, refl, ◌∙◌, ⊎_elim, arith}
 use Rattle.std.proofs.lemmas.List.{get_or_past, get_or-replicate, length-replicate}
-use Rattle.std.proofs.lemmas.List.Sums.{sum_by-cons}
+use Rattle.std.proofs.lemmas.List.Folds.{sum_by-replicate}
 use Rattle.std.proofs.lemmas.Bool.{cases_lt}
 use Rattle.protocol.specs.Limits.{most_numbers, row_count}
 use Rattle.contents.specs.Contents.{empty_store, filled, nonempty, total, vacant, vacants}
@@ -17,13 +17,9 @@ get_d_vacant k =
     (λ h. get_or_past (replicate {A = List ℕ} most_numbers []) k [] (rw (length-replicate {A = List ℕ} most_numbers []) h))
     (cases_lt k most_numbers)
 
-filled-replicate : (n : ℕ) → filled (replicate n []) ≡ 0
-filled-replicate zero = refl
-filled-replicate (suc n) = sum_by-cons (λ x. cond (nonempty x) 1 0) [] (replicate n []) ∙ omega (arith, filled-replicate n)
-
 pub filled-vacant : filled vacant ≡ 0
 unfolding vacant
-filled-vacant = filled-replicate most_numbers
+filled-vacant = sum_by-replicate (λ x. cond (nonempty x) 1 0) most_numbers []
 
 pub length-vacants : length vacants ≡ row_count
 unfolding vacants
@@ -33,10 +29,6 @@ pub get_d_vacants : (k : ℕ) (d : List (List ℕ)) → k < row_count → get_or
 unfolding vacants
 get_d_vacants k d h = get_or-replicate {A = List (List ℕ)} row_count k vacant d h
 
-total-replicate : (n : ℕ) → sum_by filled (replicate {A = List (List ℕ)} n vacant) ≡ 0
-total-replicate zero = refl
-total-replicate (suc n) = sum_by-cons filled vacant (replicate {A = List (List ℕ)} n vacant) ∙ omega (arith, filled-vacant, total-replicate n)
-
 pub total_empty : (w l : ℕ) → total (empty_store w l) ≡ 0
 unfolding vacants total
-total_empty w l = total-replicate row_count
+total_empty w l = sum_by-replicate filled row_count vacant ∙ omega (arith, filled-vacant)

@@ -1,12 +1,12 @@
 -- The steps of a pool, told of its slots.
-use Rattle.std.proofs.Common.{◌≡◌, ℕ, zero, suc, ◌+◌, ◌*◌, ◌<◌, ◌≤◌, true, ◌≢◌, ◌⊎◌, List, [], ◌∷◌, ◌++◌, Option, Some, None, length, map, get_or, take, drop, set, replicate, vec_capacity, vec_items, sym, refl, ap, ◌∙◌, ap₂, inl, inr, arith}
+use Rattle.std.proofs.Common.{◌≡◌, ℕ, zero, suc, ◌+◌, ◌*◌, ◌<◌, ◌≤◌, true, ◌⊎◌, List, [], ◌∷◌, ◌++◌, Option, Some, None, length, map, get_or, take, drop, set, replicate, vec_items, sym, refl, ap, ◌∙◌, ap₂, inl, inr, arith}
 use lib.Seq.{paste}
 use Rattle.std.proofs.lemmas.List.{get_or-map, length-map, length-replicate, map-set, set-get_or}
 use Rattle.protocol.specs.Limits.{most_strings}
-use Rattle.contents.specs.Contents.{fits, string_at, total, with_string}
+use Rattle.contents.specs.Contents.{fits, string_at, with_string}
 use Rattle.contents.specs.Layout.{place_of}
 use Rattle.contents.specs.Pools.{PoolKept, pool_contents}
-use Rattle.contents.proofs.Pooling.{pool_less, pool_none, pool_put_after, pool_put_keeps, pool_put_room, pool_release_after, pool_release_keeps, pool_room, pool_sound, pool_string}
+use Rattle.contents.proofs.Pooling.{pool_less, pool_none, pool_put_after, pool_put_keeps, pool_release_after, pool_release_keeps, pool_room, pool_string}
 use Rattle.contents.proofs.Places.{place_low}
 use Rattle.contents.proofs.Strings.{string_put_none}
 use Rattle.store.specs.declared.place.Place.{Place}

@@ -13,6 +13,7 @@ pub enum AnyStore {
     Pool(Pool),
 }
 
+// Each call has its match: the gate refuses a method that would give either store as a `&dyn FragmentStore`.
 impl FragmentStore for AnyStore {
     ghost contents = { any_of };
 

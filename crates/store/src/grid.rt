@@ -10,7 +10,7 @@ mod making;
 pub struct Grid {
     // A cell for each place.
     cells: Cells,
-    // The length of the string at each place, 0 where none is held.
+    // The length of the string at each place. Where none is held it is 0, and the empty string is read with no test.
     lens: Vec<u16>,
     // How many strings are held.
     held: u16,

@@ -27,10 +27,9 @@ impl Places for Pool {
 
     #[tactic(auto, using(crate::proofs::Slots::slot_none, crate::proofs::Slots::slot_room, crate::proofs::Slots::slot_string))]
     fn string(&self, place: Place) -> &[u8] {
-        match self.slots[place.index()] {
-            Some(slot) => self.cells.front(slot.cell as usize, slot.len),
-            None => &[],
-        }
+        self.slots[place.index()].map_or(&[], |slot| {
+            self.cells.front(slot.cell as usize, slot.len)
+        })
     }
 
     #[tactic(auto, using(contents::proofs::Pooling::pool_spare))]

@@ -1,5 +1,5 @@
-use Rattle.std.proofs.Common.{◌≡◌, ◌-◌, ◌+◌, [], sym, ap, ◌∙◌, arith}
-use Rattle.contents.specs.Contents.{Contents, emptied, row_at, with_row, with_string}
+use Rattle.std.proofs.Common.{[], sym, ap, ◌∙◌, arith}
+use Rattle.contents.specs.Contents.{Contents, with_string}
 use Rattle.contents.proofs.Clearing.{cleared_all, cleared_none, cleared_number}
 use Rattle.store.proofs.places.AnyFragmentStore.free.Goals as goal
 
