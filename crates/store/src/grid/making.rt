@@ -8,7 +8,7 @@ ghost use Rattle.store.specs.Meanings.{grid_of};
 use crate::cells::Cells;
 use crate::fault::StoreFault;
 use crate::grid::Grid;
-use crate::making::check_sizes;
+use crate::making::{check_sizes, fill};
 use protocol::MOST_STRINGS;
 use std::alloc::{AllocError, Global};
 
@@ -42,7 +42,6 @@ impl Grid {
     pub fn make(place: &mut Option<Grid>, heap: Global, width: u16) -> Result<(), StoreFault>
         ensures answer { Filling grid_of width most_strings place.old place.new result }
     {
-        *place = Some(Grid::new(heap, width)?);
-        Ok(())
+        fill(place, Grid::new(heap, width))
     }
 }

@@ -6,7 +6,7 @@ ghost use Rattle.store.specs.Meanings.{pool_of};
 
 use crate::cells::Cells;
 use crate::fault::StoreFault;
-use crate::making::check_sizes;
+use crate::making::{check_sizes, fill};
 use crate::pool::Pool;
 use crate::pool::spare::Spare;
 use protocol::MOST_STRINGS;
@@ -47,7 +47,6 @@ impl Pool {
     ) -> Result<(), StoreFault>
         ensures answer { Filling pool_of width limit place.old place.new result }
     {
-        *place = Some(Pool::new(heap, width, limit)?);
-        Ok(())
+        fill(place, Pool::new(heap, width, limit))
     }
 }
