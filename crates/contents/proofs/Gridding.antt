@@ -1,5 +1,5 @@
 -- The steps of a grid: a string written, a string erased, and making.
-use Rattle.std.proofs.Common.{◌≡◌, ℕ, ◌+◌, ◌-◌, ◌*◌, ◌<◌, ◌≤◌, true, List, [], length, get_or, take, drop, set, replicate, sym, refl, ap, ◌∙◌, subst, ap₂, ⊎_elim, arith}
+use Rattle.std.proofs.Common.{◌≡◌, ℕ, ◌+◌, ◌-◌, ◌*◌, ◌<◌, ◌≤◌, true, List, [], length, get_or, take, drop, set, replicate, sym, refl, ap, ◌∙◌, ap₂, ⊎_elim, arith}
 use lib.Seq.{paste}
 use Rattle.std.proofs.lemmas.List.Edits.{length-paste}
 use Rattle.std.proofs.lemmas.List.{get_or_past, get_or_read, length-replicate, length-set}
@@ -7,7 +7,7 @@ use Rattle.std.proofs.lemmas.Bool.{cases_lt}
 use Rattle.protocol.specs.Limits.{most_strings}
 use Rattle.contents.specs.Contents.{Sound, empty_store, fits, in_bounds, string_at, total, width_fits, with_string}
 use Rattle.contents.specs.Grids.{GridKept, grid_contents}
-use Rattle.contents.specs.Layout.{Short, Sized, place_of, string_by}
+use Rattle.contents.specs.Layout.{place_of, string_by}
 use Rattle.contents.proofs.Blocks.{cell_room, erased, held-length, string_length, written}
 use Rattle.contents.proofs.Bounds.{fits_are, width_are}
 use Rattle.contents.proofs.Lengths.{set_short, zero_lengths}

@@ -1,5 +1,5 @@
 -- The steps of a pool: a string written to a free cell, a string's cell made free, and making.
-use Rattle.std.proofs.Common.{◌≡◌, ℕ, ◌+◌, ◌-◌, ◌*◌, ◌<◌, ◌≤◌, true, ◌≢◌, List, [], ◌∷◌, ◌++◌, length, get_or, take, drop, set, replicate, sym, refl, ap, ◌∙◌, subst, ap₂, ⊎_elim, arith}
+use Rattle.std.proofs.Common.{◌≡◌, ℕ, ◌+◌, ◌*◌, ◌<◌, ◌≤◌, true, ◌≢◌, List, [], ◌∷◌, ◌++◌, length, get_or, take, drop, set, replicate, sym, refl, ap, ◌∙◌, ap₂, ⊎_elim, arith}
 use lib.Seq.{paste}
 use Rattle.std.proofs.lemmas.List.Edits.{length-paste}
 use Rattle.std.proofs.lemmas.List.{get_or-set_other, get_or-set_same, length-append, length-replicate, length-set, nil_from_length}
@@ -8,9 +8,9 @@ use Rattle.std.proofs.Math.Seq.{get_or-append_seam}
 use Rattle.std.proofs.lemmas.Bool.{cases_eq}
 use Rattle.protocol.specs.Limits.{most_strings}
 use Rattle.contents.specs.Contents.{Sound, empty_store, fits, in_bounds, limit_fits, string_at, total, width_fits, with_string}
-use Rattle.contents.specs.Layout.{Short, Sized, place_of, string_by}
+use Rattle.contents.specs.Layout.{place_of, string_by}
 use Rattle.contents.specs.Pools.{PoolKept, pool_contents}
-use Rattle.contents.proofs.Blocks.{cell_room, erased, held-length, string_length, written}
+use Rattle.contents.proofs.Blocks.{cell_room, held-length, string_length, written}
 use Rattle.contents.proofs.Bounds.{fits_are, limit_are, width_are}
 use Rattle.contents.proofs.Lengths.{set_short, zero_lengths}
 use Rattle.contents.proofs.Places.{empty_by, place_low, put_by, sound_by, string_by_lem}
