@@ -1,5 +1,5 @@
 -- The string at a place, after a put and after a free.
-use Rattle.std.proofs.Common.{◌≡◌, ℕ, ◌-◌, ◌<◌, true, false, ◌≢◌, ◌⊎◌, List, [], length, get_or, set, sym, ap, ◌∙◌, inl, inr, ⊎_elim, arith}
+use Rattle.std.proofs.Common.{◌≡◌, ℕ, ◌-◌, true, false, ◌≢◌, ◌⊎◌, List, [], length, get_or, set, sym, ap, ◌∙◌, inl, inr, ⊎_elim, arith}
 use Rattle.std.proofs.lemmas.List.{get_or_past, get_or-set_other, get_or-set_same, nil_from_length, set-get_or, set_past}
 use Rattle.std.proofs.lemmas.Bool.{cases_Bool, cases_eq, cases_lt, cond-false, cond-true}
 use Rattle.contents.specs.Contents.{Contents, Sound, empty_store, in_bounds, row_at, string_at, vacant, with_row, with_string}
@@ -13,11 +13,6 @@ string_in s r n h = cond-true (in_bounds r n) (get_or (row_at s r) (n - 1) []) [
 pub string_out : (s : Contents) (r n : ℕ) → in_bounds r n ≡ false → string_at s r n ≡ []
 unfolding string_at
 string_out s r n h = cond-false (in_bounds r n) (get_or (row_at s r) (n - 1) []) [] h
-
--- what is held is in bounds
-pub held_in : (s : Contents) (r n : ℕ) → 0 < length (string_at s r n) → in_bounds r n ≡ true
-held_in s r n h =
-    ⊎_elim (λ b. b) (λ b. absurd (let e = ap length (string_out s r n b) in let f : ⊥ = omega arith in f)) (cases_Bool (in_bounds r n))
 
 -- two stores with the same string there
 string_same : (s t : Contents) (r n : ℕ) → (in_bounds r n ≡ true → get_or (row_at s r) (n - 1) [] ≡ get_or (row_at t r) (n - 1) []) → string_at s r n ≡ string_at t r n

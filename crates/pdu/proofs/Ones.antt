@@ -1,9 +1,9 @@
 -- Sums of words, plain and in one's complement.
-use Rattle.std.proofs.Common.{◌≡◌, ℕ, zero, suc, ◌+◌, ◌-◌, ◌*◌, ◌/◌, ◌%◌, ◌<◌, ◌≤◌, eqb, ◌⊎◌, List, [], ◌∷◌, length, get_or, drop, set, sym, ap, ◌∙◌, inl, inr, ⊎_elim, arith, length-set}
-use Rattle.std.proofs.lemmas.Bool.{cases_order, cases_eq, cond-true, cond-false, eq-eqb, ne_eqb}
-use Rattle.std.proofs.lemmas.List.{at_drop_more, at_drop_all, get_or-set_other}
+use Rattle.std.proofs.Common.{◌≡◌, ℕ, zero, suc, ◌+◌, ◌-◌, ◌*◌, ◌/◌, ◌<◌, ◌≤◌, ◌⊎◌, List, [], ◌∷◌, length, get_or, set, ap, ◌∙◌, inl, inr, ⊎_elim, arith, length-set}
+use Rattle.std.proofs.lemmas.Bool.{cases_order, cases_eq}
+use Rattle.std.proofs.lemmas.List.{get_or-set_other}
 use Rattle.pdu.specs.Octets.{Octets, word}
-use Rattle.pdu.specs.Sum.{carried, ones_sum, blanked, checksum_of, word_sum, odd_word}
+use Rattle.pdu.specs.Sum.{carried, ones_sum, blanked, checksum_of, word_sum}
 
 -- r is the one's complement value of the plain sum s
 pub record Ones (s r : ℕ) : Type 0 where
@@ -69,28 +69,6 @@ octets-set (x ∷ xs) (suc i) v h o (suc k) = octets-set xs i v h (λ j. o (suc 
 
 pub octets-blanked : (xs : List ℕ) → Octets xs → Octets (blanked xs)
 octets-blanked xs o = octets-set (set xs 6 0) 7 0 (omega arith) (octets-set xs 6 0 (omega arith) o)
-
--- the steps of a loop that sums
-pub word_sum_more : (xs : List ℕ) (i j : ℕ) → i + 1 < length xs → j ≡ i + 2 → word_sum (drop i xs) ≡ get_or xs i 0 * 256 + get_or xs (i + 1) 0 + word_sum (drop j xs)
-word_sum_more xs i j h e =
-    let two : i + 1 + 1 ≡ j = omega arith in
-    at_drop_more word_sum xs i 0 (omega arith)
-    ∙ at_drop_more (λ ys. word_sum (get_or xs i 0 ∷ ys)) xs (i + 1) 0 h
-    ∙ ap (λ k. get_or xs i 0 * 256 + get_or xs (i + 1) 0 + word_sum (drop k xs)) two
-
-word_sum_last : (xs : List ℕ) (i j : ℕ) → i + 1 ≡ length xs → i ≡ j → word_sum (drop i xs) ≡ get_or xs j 0 * 256
-word_sum_last xs i j h e =
-    at_drop_more word_sum xs i 0 (omega arith)
-    ∙ at_drop_all (λ ys. word_sum (get_or xs i 0 ∷ ys)) xs (i + 1) (omega arith)
-    ∙ ap (λ k. get_or xs k 0 * 256) e
-
--- behind the last whole word
-pub word_sum_end : (xs : List ℕ) (i : ℕ) → i ≡ 2 * (length xs / 2) → word_sum (drop i xs) ≡ odd_word xs
-word_sum_end xs i e =
-    ⊎_elim
-    (λ (odd : length xs % 2 ≡ 1). word_sum_last xs i (length xs - 1) (omega arith) (omega arith) ∙ sym (cond-true (eqb (length xs % 2) 1) _ _ (eq-eqb (length xs % 2) 1 odd)))
-    (λ (even : length xs % 2 ≡ 1 → ⊥). at_drop_all word_sum xs i (omega arith) ∙ sym (cond-false (eqb (length xs % 2) 1) _ _ (ne_eqb (length xs % 2) 1 even)))
-    (cases_eq (length xs % 2) 1)
 
 -- the complement of the folded sum, the field taken off, is the Checksum
 pub checksum_is : (xs : List ℕ) (s r : ℕ) → Octets xs → 8 ≤ length xs → s < 4294967296 → s ≡ word_sum xs → r ≡ carried (carried (s - word xs 6)) → 65535 - r ≡ checksum_of xs

@@ -42,9 +42,6 @@ pub length-joined : {X : Type 0} (f : X → List ℕ) (w : ℕ) → ((x : X) →
 length-joined f w each [] = omega arith
 length-joined f w each (x ∷ xs) = length-append (f x) (flat_map f xs) ∙ omega (arith, each x, length-joined f w each xs, mul-suc w (length xs))
 
-pub parts_none : (buffer : List ℕ) (p : ℕ) → buffer ≡ overlaid buffer p []
-parts_none buffer p = let e : p ≡ p + 0 = omega arith in sym (take-append-drop p buffer) ∙ ap (λ k. take p buffer ++ drop k buffer) e
-
 -- one more part, of an element that the loop has reached
 pub parts_more : {X : Type 0} (f : X → List ℕ) (w : ℕ) → ((x : X) → length (f x) ≡ w) → (buffer out out' : List ℕ) (p q i : ℕ) (xs : List X) (d : X) (ys : List ℕ)
     → out ≡ overlaid buffer p (flat_map f (take i xs)) → out' ≡ overlaid out q ys → f (get_or xs i d) ≡ ys

@@ -1,14 +1,11 @@
 -- Going through destinations and entries, one at a time.
-use Rattle.std.proofs.Common.{◌≡◌, ℕ, zero, suc, ◌+◌, ◌-◌, ◌*◌, ◌/◌, ◌%◌, ◌<◌, ◌≤◌, min, true, false, cond, not, ◌||◌, eqb, ltb, leb, ◌⊎◌, List, [], ◌∷◌, length, get_or, take, drop, Some, None, Option, sym, refl, ap, ◌∙◌, inr, ⊎_elim, arith, length-drop}
-use Rattle.std.proofs.lemmas.List.{at_drop_more, at_drop_all, get_or-drop, drop-drop}
-use Rattle.std.proofs.lemmas.Bool.{cases_lt, lt-ltb, le-ltb, cond-true, cond-false, leb-true, le-leb, lt-leb, and_parts}
+use Rattle.std.proofs.Common.{◌≡◌, ℕ, zero, suc, ◌+◌, ◌-◌, ◌*◌, ◌%◌, ◌<◌, ◌≤◌, min, true, false, cond, not, ◌||◌, eqb, ltb, leb, ◌⊎◌, List, [], ◌∷◌, length, get_or, take, drop, Some, None, sym, refl, ap, ◌∙◌, inr, ⊎_elim, arith, length-drop}
+use Rattle.std.proofs.lemmas.List.{get_or-drop, drop-drop}
+use Rattle.std.proofs.lemmas.Bool.{cases_lt, lt-ltb, le-ltb, cond-true, cond-false, leb-true, and_parts}
 use Rattle.std.proofs.lemmas.Bool.Decides.{nat_tests}
 use Rattle.std.specs.Option.{option_or}
-use Rattle.std.specs.List.{slice_get}
-use Rattle.protocol.specs.Limits.{is_number}
 use Rattle.pdu.specs.Octets.{word, quad, words_of}
-use Rattle.pdu.specs.Read.{destinations_of, unrisen, unrisen_after, is_entry_length, entry_broken, entry_numbers, entries_broken, entries_if, entry_of, entries_of, numbers_broken, lower}
-use Rattle.pdu.specs.Write.{placed}
+use Rattle.pdu.specs.Read.{destinations_of, is_entry_length, entry_broken, entry_numbers, entries_broken, entries_if, entry_of, entries_of, numbers_broken, lower}
 use Rattle.pdu.specs.Types.{destination_size, entry_head, ack_count, time_option}
 
 -- fields of what is left from a place on
@@ -137,96 +134,9 @@ unfolding entries_broken
 broken_stop zero place p xs some e = absurd (omega arith)
 broken_stop (suc n) place p xs some e = ap (λ b. option_or b (lower (numbers_broken (place + entry_head) (entry_numbers xs)) (entries_broken n (place + word xs 0) (drop (word xs 0) xs)))) e
 
-pub lower-none : (a : Option ℕ) → lower a None ≡ a
-lower-none None = refl
-lower-none (Some a) = refl
-
 -- behind the last entry
 pub broken_rest : (count place : ℕ) (xs : List ℕ) → count ≡ 0
     → entries_broken count place (drop place xs) ≡ cond (eqb (length xs - place) 0 || eqb (length xs - place) time_option) None (Some ack_count)
 unfolding entries_broken
 broken_rest zero place xs e = ap (λ k. cond (eqb k 0 || eqb k time_option) None (Some ack_count)) (length-drop place xs)
 broken_rest (suc n) place xs e = absurd (omega arith)
-
--- the lowest of three places, however they are joined
-pub lower_assoc : (a b c : Option ℕ) → lower (lower a b) c ≡ lower a (lower b c)
-lower_assoc None b c = refl
-lower_assoc (Some a) None c = refl
-lower_assoc (Some a) (Some b) None = lower-none (lower (Some a) (Some b))
-lower_assoc (Some a) (Some b) (Some c) = grind (arith, nat_tests)
-
--- == listed numbers ==
-
-pub length_words : (xs : List ℕ) → length (words_of xs) ≡ length xs / 2
-length_words [] = refl
-length_words (a ∷ []) = refl
-length_words (a ∷ b ∷ xs) = omega (arith, length_words xs)
-
-pub words_at : (xs : List ℕ) (k : ℕ) → 2 * k + 1 < length xs → slice_get (words_of xs) k ≡ Some (word xs (2 * k))
-words_at [] k h = absurd (omega arith)
-words_at (a ∷ []) k h = absurd (omega arith)
-words_at (a ∷ b ∷ xs) zero h = refl
-words_at (a ∷ b ∷ xs) (suc k) h =
-    let even : suc (suc (2 * k)) ≡ 2 * suc k = omega arith in
-    let odd : suc (suc (2 * k + 1)) ≡ 2 * suc k + 1 = omega arith in
-    words_at xs k (omega arith) ∙ (λ t. Some (get_or (a ∷ b ∷ xs) (even t) 0 * 256 + get_or (a ∷ b ∷ xs) (odd t) 0))
-
--- the steps of a loop that judges numbers
-module _ (xs : List ℕ) (p q i j n : ℕ) (more : i + 1 < length xs) (next : j ≡ i + 2) (after : q ≡ p + 2) (is : n ≡ word xs i) where
-  numbers-step : numbers_broken p (words_of (drop i xs)) ≡ cond (is_number n) (numbers_broken q (words_of (drop j xs))) (Some p)
-  numbers-step =
-      let two : i + 1 + 1 ≡ j = omega arith in
-      at_drop_more (λ ys. numbers_broken p (words_of ys)) xs i 0 (omega arith)
-      ∙ at_drop_more (λ ys. numbers_broken p (words_of (get_or xs i 0 ∷ ys))) xs (i + 1) 0 more
-      ∙ (λ t. cond (is_number (sym is t)) (numbers_broken (sym after t) (words_of (drop (two t) xs))) (Some p))
-
-  pub numbers_on : is_number n ≡ true → numbers_broken p (words_of (drop i xs)) ≡ numbers_broken q (words_of (drop j xs))
-  numbers_on good = numbers-step ∙ cond-true (is_number n) _ _ good
-
-  pub numbers_stop : is_number n ≡ false → numbers_broken p (words_of (drop i xs)) ≡ Some p
-  numbers_stop bad = numbers-step ∙ cond-false (is_number n) _ _ bad
-
-pub numbers_end : (xs : List ℕ) (p i : ℕ) → length xs ≤ i + 1 → numbers_broken p (words_of (drop i xs)) ≡ None
-numbers_end xs p i h =
-    ⊎_elim
-    (λ (l : i < length xs). at_drop_more (λ ys. numbers_broken p (words_of ys)) xs i 0 l ∙ at_drop_all (λ ys. numbers_broken p (words_of (get_or xs i 0 ∷ ys))) xs (i + 1) h)
-    (λ (l : length xs ≤ i). at_drop_all (λ ys. numbers_broken p (words_of ys)) xs i l)
-    (cases_lt i (length xs))
-
--- the same over numbers that are not yet octets
-module _ (ns : List ℕ) (p q i j n : ℕ) (more : i < length ns) (next : j ≡ i + 1) (after : q ≡ p + 2) (is : n ≡ get_or ns i 0) where
-  unwritten_step : numbers_broken p (drop i ns) ≡ cond (is_number n) (numbers_broken q (drop j ns)) (Some p)
-  unwritten_step =
-      at_drop_more (numbers_broken p) ns i 0 more
-      ∙ (λ t. cond (is_number (sym is t)) (numbers_broken (sym after t) (drop (sym next t) ns)) (Some p))
-
-  pub unwritten_on : is_number n ≡ true → numbers_broken p (drop i ns) ≡ numbers_broken q (drop j ns)
-  unwritten_on good = unwritten_step ∙ cond-true (is_number n) _ _ good
-
-  pub unwritten_stop : is_number n ≡ false → numbers_broken p (drop i ns) ≡ Some p
-  unwritten_stop bad = unwritten_step ∙ cond-false (is_number n) _ _ bad
-
-pub unwritten_end : (ns : List ℕ) (p i : ℕ) → length ns ≤ i → numbers_broken p (drop i ns) ≡ None
-unwritten_end ns p i h = at_drop_all (numbers_broken p) ns i h
-
--- == destinations to be written ==
-
-module _ (ds : List (ℕ × ℕ)) (before p q i j d : ℕ) (more : i < length ds) (next : j ≡ i + 1) (after : q ≡ p + destination_size) (is : d ≡ (get_or ds i (0, 0)).0) where
-  rising_step : unrisen_after before (placed p (drop i ds)) ≡ cond (leb d before) (Some p) (unrisen_after d (placed q (drop j ds)))
-  rising_step =
-      at_drop_more (λ xs. unrisen_after before (placed p xs)) ds i (0, 0) more
-      ∙ (λ t. cond (leb (sym is t) before) (Some p) (unrisen_after (sym is t) (placed (sym after t) (drop (sym next t) ds))))
-
-  pub rising_on : before < d → unrisen_after before (placed p (drop i ds)) ≡ unrisen_after d (placed q (drop j ds))
-  rising_on above = rising_step ∙ cond-false (leb d before) _ _ (lt-leb d before above)
-
-  pub rising_stop : d ≤ before → unrisen_after before (placed p (drop i ds)) ≡ Some p
-  rising_stop below = rising_step ∙ cond-true (leb d before) _ _ (le-leb d before below)
-
-pub rising_end : (ds : List (ℕ × ℕ)) (before p i : ℕ) → length ds ≤ i → unrisen_after before (placed p (drop i ds)) ≡ None
-rising_end ds before p i h = at_drop_all (λ xs. unrisen_after before (placed p xs)) ds i h
-
--- the first has none before it
-pub rising-first : (ds : List (ℕ × ℕ)) (p q d : ℕ) → 0 < length ds → q ≡ p + destination_size → d ≡ (get_or ds 0 (0, 0)).0 → unrisen_after d (placed q (drop 1 ds)) ≡ unrisen (placed p ds)
-rising-first [] p q d more after is = absurd (omega arith)
-rising-first (x ∷ ds) p q d more after is = λ t. unrisen_after (is t) (placed (after t) ds)

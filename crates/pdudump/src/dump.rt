@@ -1,7 +1,7 @@
 // What a datagram says, in words.
 use pdu::Accepts;
 use std::fmt;
-use wire::{Ack, Address, Data, Entry, Kind, Pdu, WireFault, read};
+use wire::{Ack, Address, Data, Entry, Pdu, WireFault, read};
 
 // A datagram on a line of input, as the end that the line names reads it.
 #[derive(Clone, Copy)]
@@ -26,11 +26,7 @@ impl Report<'_> {
         f: &mut fmt::Formatter<W>,
         fault: WireFault,
     ) -> fmt::Result {
-        let Report {
-            line,
-            end,
-            ..
-        } = self;
+        let Report { line, end, .. } = self;
         let number = fault.number();
         write!(f, "line {line}: {end} refuses with {number}: ")?;
         match fault {
@@ -48,12 +44,8 @@ impl Report<'_> {
     }
 
     fn write_pdu<W: fmt::Write>(&self, f: &mut fmt::Formatter<W>, pdu: &Pdu<'_>) -> fmt::Result {
-        let Report {
-            line,
-            end,
-            octets,
-        } = self;
-        let kind = kind_of(pdu);
+        let Report { line, end, octets } = self;
+        let kind = pdu.kind();
         let length = octets.len();
         writeln!(f, "line {line}: {end} reads {kind}, {length} octets")?;
         write_head(f, octets, pdu)?;
@@ -63,15 +55,6 @@ impl Report<'_> {
             Pdu::Discard(discard) => write_message(f, discard.source, discard.message),
             Pdu::Ack(ack) => write_ack(f, ack, length),
         }
-    }
-}
-
-fn kind_of(pdu: &Pdu<'_>) -> Kind {
-    match pdu {
-        Pdu::Data(_) => Kind::Data,
-        Pdu::Address(address) => address.kind,
-        Pdu::Discard(_) => Kind::Discard,
-        Pdu::Ack(_) => Kind::Ack,
     }
 }
 
@@ -94,7 +77,7 @@ fn write_head<W: fmt::Write>(
         return Ok(());
     };
     let length = u16::from_be_bytes([l0, l1]);
-    let number = u8::from(kind_of(pdu));
+    let number = u8::from(pdu.kind());
     let name = field_of(pdu);
     let field = u16::from_be_bytes([f0, f1]);
     let checksum = u16::from_be_bytes([c0, c1]);
@@ -148,7 +131,10 @@ fn write_address<W: fmt::Write>(f: &mut fmt::Formatter<W>, address: &Address<'_>
         let place = d.place;
         let destination = d.destination;
         let sequence = d.sequence;
-        writeln!(f, "  {place}: destination {destination:08X}, sequence number {sequence}")?;
+        writeln!(
+            f,
+            "  {place}: destination {destination:08X}, sequence number {sequence}"
+        )?;
     }
     Ok(())
 }

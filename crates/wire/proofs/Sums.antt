@@ -1,9 +1,8 @@
 -- The sum of a datagram's words, from pairs of octets and an odd last one.
-use Rattle.std.proofs.Common.{◌≡◌, ℕ, zero, suc, ◌+◌, ◌*◌, ◌≤◌, ◌<◌, List, [], ◌∷◌, length, drop, refl, arith}
+use Rattle.std.proofs.Common.{◌≡◌, ℕ, zero, suc, ◌+◌, ◌*◌, ◌≤◌, List, [], ◌∷◌, length, drop, arith}
 use Rattle.std.proofs.lemmas.List.Sums.{sum_by-cons}
 use Rattle.std.specs.Int.{w16, from_be_bytes}
-use Rattle.std.specs.List.{sum_by, slice_get}
-use Rattle.std.specs.Option.{option_map, unwrap_or}
+use Rattle.std.specs.List.{sum_by}
 use Rattle.std.specs.Simd.{first_chunks}
 use Rattle.pdu.specs.Sum.{word_sum}
 
@@ -17,8 +16,3 @@ sum_of_chunks (suc k) (suc (suc j)) (a ∷ []) e h = absurd (omega arith)
 sum_of_chunks (suc k) (suc (suc j)) (a ∷ b ∷ xs) e h =
     let first : sum_by (from_be_bytes w16) (first_chunks 2 (suc k) (a ∷ b ∷ xs)) ≡ (a * 256 + b) + sum_by (from_be_bytes w16) (first_chunks 2 k xs) = sum_by-cons (from_be_bytes w16) (a ∷ b ∷ []) (first_chunks 2 k xs) in
     omega (arith, first, sum_of_chunks k j xs (omega arith) (omega arith))
-
-pub sum_of_odd : (xs : List ℕ) → length xs < 2 → unwrap_or (option_map (λ a. a * 256) (slice_get xs 0)) 0 ≡ word_sum xs
-sum_of_odd [] h = refl
-sum_of_odd (a ∷ []) h = refl
-sum_of_odd (a ∷ b ∷ xs) h = absurd (omega arith)
