@@ -1,6 +1,8 @@
 -- The first place of a list whose element passes a test, by the definition and by the relation.
-use Rattle.std.proofs.Common.{◌≡◌, ℕ, zero, suc, ◌+◌, ◌<◌, Bool, true, false, List, [], ◌∷◌, length, get_or, Some, None, Option, sym, refl, ap, ◌∙◌, subst, inl, inr, arith}
+use Rattle.std.proofs.Common.{◌≡◌, ℕ, zero, suc, ◌+◌, ◌<◌, Bool, true, false, cond, List, [], ◌∷◌, length, get_or, Some, None, Option, sym, refl, ap, ◌∙◌, subst, inl, inr, arith}
+use Rattle.std.specs.List.{position, position_from}
 use Rattle.std.specs.Option.{option_map}
+use Rattle.std.proofs.lemmas.Iterator.Adapters.{position_from-zero}
 use Rattle.std.proofs.lemmas.List.{get_or_read}
 use Rattle.std.proofs.lemmas.Bool.{both_ways, cases_Bool, cases_eq, cases_order}
 use Rattle.parts.specs.Places.{First, first_from, first_place}
@@ -55,17 +57,12 @@ first_is p [] None h = refl
 first_is p [] (Some b) h = absurd (let f : ⊥ = omega (arith, h.0) in f)
 first_is p (x ∷ xs) o h = one_first p (x ∷ xs) x o (first_place p (x ∷ xs)) h (first-stands p (x ∷ xs))
 
--- a loop that looks for the first: the element x stands at i, and none before it passes
-module _ {X : Type 0} (p : X → Bool) (xs : List X) (i : ℕ) (x : X) (long : i < length xs) (here : x ≡ get_or xs i x) where
-  at : (d : X) → get_or xs i d ≡ x
-  at d = sym (get_or_read xs i x long here d)
+-- std's word for it
+position_from-first : {X : Type 0} (p : X → Bool) (i : ℕ) (xs : List X) → position_from p i xs ≡ first_from p i xs
+unfolding first_from
+position_from-first p i [] = refl
+position_from-first p i (x ∷ xs) = ap (cond (p x) (Some i)) (position_from-first p (i + 1) xs)
 
-  pub none_more : p x ≡ false → ((k : ℕ) (d : X) → k < i → p (get_or xs k d) ≡ false) → (k : ℕ) (d : X) → k < i + 1 → p (get_or xs k d) ≡ false
-  none_more n before k d l =
-      elim (cases_eq k i) [
-        | inl e ↦ subst (λ j. p (get_or xs j d) ≡ false) (sym e) (ap p (at d) ∙ n)
-        | inr ne ↦ before k d (omega arith)
-      ]
-
-  pub first_here : p x ≡ true → ((k : ℕ) (d : X) → k < i → p (get_or xs k d) ≡ false) → Some i ≡ first_place p xs
-  first_here t before = first_is p xs (Some i) (long, (λ d. ap p (at d) ∙ t), before)
+pub first-position : {X : Type 0} (p : X → Bool) (xs : List X) → position p xs ≡ first_place p xs
+unfolding first_place
+first-position p xs = position_from-zero p xs ∙ position_from-first p 0 xs

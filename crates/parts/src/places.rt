@@ -11,14 +11,8 @@ pub trait Passes<T> {
 }
 
 // The place of the first that passes.
-#[tactic(auto, using(crate::proofs::Firsts::first_here))]
 pub fn first_place<T, Q: Passes<T>>(test: &Q, items: &[T]) -> Option<usize>
     ensures place { result ≡ first_place (Q.Passes.test test.now) items.now }
 {
-    for (i, item) in items.iter().enumerate() {
-        if test.passes(item) {
-            return Some(i);
-        }
-    }
-    None
+    items.iter().position(|item| test.passes(item))
 }

@@ -1,11 +1,10 @@
-use Rattle.std.proofs.Common.{None, sym, ◌∙◌, arith}
-use Rattle.parts.proofs.Firsts.{first_is, none_more}
+use Rattle.std.proofs.Common.{◌∙◌, rules, tests}
+use Rattle.std.proofs.lemmas.Iterator.{YieldsList-from_slice}
+use Rattle.std.proofs.lemmas.Iterator.Search.{position_from_yields_List}
+use Rattle.parts.proofs.Firsts.{first-position}
 use Rattle.parts.proofs.places.first_place.Goals as goal
 
-pub loop-i-preserved : goal.loop-i-preserved
-loop-i-preserved g c =
-    none_more (g.Q.Passes.test c.args.test.now) c.args.items.now c.loop-i.i c.index-items-i.result c.loop-i-test.true c.index-items-i.is
-    (sym c.passes.ensures.value ∙ c.if-passes.false) c.loop-i.invariant
-
 pub returns : goal.returns
-returns g c = record { place = first_is (g.Q.Passes.test c.args.test.now) c.args.items.now None (λ k d l. c.loop-i.invariant k d (omega arith)) }
+returns g c =
+    let p = g.Q.Passes.test c.args.test.now in
+    record { place = position_from_yields_List p _ _ _ c.position.ensures.ran (YieldsList-from_slice c.args.items.now cc) (λ x b q k. search (rules, tests)) ∙ first-position p c.args.items.now }
