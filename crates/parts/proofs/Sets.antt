@@ -24,6 +24,9 @@ pub has-holds : (s : Numbers) (n : ℕ) → 0 < n → n ≤ most_numbers → has
 unfolding has
 has-holds s n a b = ap (λ t. t && holds s.words n) (number n a b)
 
+pub held : (s : Numbers) (n : ℕ) → 0 < n → n ≤ most_numbers → holds s.words n ≡ has s n
+held s n a b = sym (has-holds s n a b)
+
 pub has-number : (s : Numbers) (n : ℕ) → has s n ≡ true → is_number n ≡ true
 unfolding has
 has-number s n h = (and_parts (is_number n) (holds s.words n) h).0

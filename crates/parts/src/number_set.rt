@@ -8,13 +8,12 @@ ghost use Rattle.parts.specs.Numbers.{Sound, common, excluding, has, including, 
 
 use crate::numbers::Numbers;
 use crate::words::{
-    Joint, Side, above, bit, count_of, equal, front, is_number, joined, top_of, top_without,
-    turned, words_of,
+    Joint, Side, above, bit, count_of, front, joined, top_of, top_without, turned, words_of,
 };
-use protocol::WORDS;
+use protocol::{WORDS, is_number};
 
 // A set of fragment numbers whose words, count and top are those of its numbers.
-#[derive(Clone, Copy)]
+#[derive(Clone, Copy, PartialEq, Eq, Debug)]
 pub struct NumberSet {
     numbers: Numbers,
     ghost sound: { Sound numbers },
@@ -34,13 +33,6 @@ fn set_of(words: [u64; WORDS]) -> NumberSet
     NumberSet {
         numbers: Numbers { words, count, top },
     }
-}
-
-// Whether two sets have one count and one top.
-fn agree(a: &Numbers, b: &Numbers) -> bool
-    ensures value { result ≡ (a.now.count == b.now.count && a.now.top == b.now.top) }
-{
-    a.count == b.count && a.top == b.top
 }
 
 // The set of what two sides, joined bit by bit, hold.
@@ -71,35 +63,31 @@ fn write_rising(set: &NumberSet, out: &mut [u16]) -> usize
     done
 }
 
+// The set of a plain one's numbers. Where count or top are not those of its words, they are counted anew.
+impl From<Numbers> for NumberSet {
+    ghost from_gives = { λ plain set. set.numbers ≡ set_of (has plain) };
+
+    fn from(numbers: Numbers) -> NumberSet {
+        set_of(numbers.words)
+    }
+}
+
+// The set as it lies in a table.
+impl From<NumberSet> for Numbers {
+    ghost from_gives = { λ set plain. (plain ≡ set.numbers) × Sound plain };
+
+    fn from(set: NumberSet) -> Numbers {
+        set.numbers
+    }
+}
+
 impl NumberSet {
     // The set that a plain one stands for, if its words, count and top agree.
     pub fn checked(numbers: Numbers) -> Option<NumberSet>
         ensures answer { MatchOption result (Sound numbers → ⊥) (λ s. (s.numbers ≡ numbers) × Sound numbers) }
     {
         let set = set_of(numbers.words);
-        if !agree(&set.numbers, &numbers) {
-            return None;
-        }
-        Some(set)
-    }
-
-    // The set of a plain one's numbers. Where count or top are not those of its words, they are counted anew.
-    pub fn of(numbers: Numbers) -> NumberSet
-        ensures whole { result.numbers ≡ set_of (has numbers) }
-    {
-        match NumberSet::checked(numbers) {
-            Some(set) => set,
-            None => set_of(numbers.words),
-        }
-    }
-
-    // The set as it lies in a table.
-    pub fn plain(&self) -> Numbers
-        ensures value { result ≡ self.now.numbers }
-        ensures sound { Sound result }
-    {
-        let NumberSet { numbers } = *self;
-        numbers
+        (set.numbers == numbers).then_some(set)
     }
 
     pub fn empty() -> NumberSet
@@ -264,10 +252,7 @@ impl NumberSet {
         if a >= b {
             return false;
         }
-        match self.next_from(a + 1) {
-            Some(n) => n < b,
-            None => false,
-        }
+        self.next_from(a + 1).is_some_and(|n| n < b)
     }
 
     // Writes the lowest numbers of the set to the front of out, rising, as many as there are and it takes; tells how many.
@@ -283,6 +268,6 @@ impl NumberSet {
         ensures alike { ((k : ℕ) → 0 < k → k ≤ most_numbers → has self.now.numbers k ≡ has other.now.numbers k) → self.now.numbers ≡ other.now.numbers }
         ensures value { MatchBool result (self.now.numbers ≡ other.now.numbers) (self.now.numbers ≢ other.now.numbers) }
     {
-        equal(&self.numbers.words, &other.numbers.words)
+        self == other
     }
 }

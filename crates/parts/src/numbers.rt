@@ -1,7 +1,7 @@
 // A set of fragment numbers as it lies in a table of rows: plain, and only as sound as its owner keeps it.
 use protocol::WORDS;
 
-#[derive(Clone, Copy)]
+#[derive(Clone, Copy, PartialEq, Eq, Debug)]
 pub struct Numbers {
     // number n is bit (n - 1) % 64 of word (n - 1) / 64
     pub words: [u64; WORDS],

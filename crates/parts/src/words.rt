@@ -3,22 +3,15 @@ ghost use Rattle.std.specs.Prelude.{◌≡◌, ℕ, ◌+◌, ◌-◌, ◌*◌, �
 ghost use Rattle.std.specs.Int.Count.{count_leading_zeros, count_trailing_zeros};
 ghost use Rattle.bitmap.specs.Passing.{Next, greatest, tally};
 ghost use Rattle.bitmap.specs.Words.{Fitted, bit_of, holds};
-ghost use Rattle.protocol.specs.Limits.{is_number, most_numbers, word_count};
+ghost use Rattle.protocol.specs.Limits.{most_numbers, word_count};
 ghost use Rattle.parts.specs.Joints.{joins, sided};
 ghost use Rattle.parts.specs.Numbers.{has};
 
 use crate::numbers::Numbers;
-use protocol::{NUMBERS, WORDS};
+use protocol::{WORDS, is_number};
 
 // The bits of a word.
 const BITS: u16 = 64;
-
-// Whether n may be in a set.
-pub(crate) fn is_number(n: u16) -> bool
-    ensures value { result ≡ is_number n }
-{
-    n >= 1 && n <= NUMBERS
-}
 
 // Whether n is in a set.
 pub(crate) fn bit(numbers: &Numbers, n: u16) -> bool
@@ -154,18 +147,6 @@ pub(crate) fn front(total: u16) -> [u64; WORDS]
         words[i] = low_bits(total.saturating_sub(i as u16 * BITS));
     }
     words
-}
-
-// Whether two arrays of words are the same.
-pub(crate) fn equal(a: &[u64; WORDS], b: &[u64; WORDS]) -> bool
-    ensures value { MatchBool result ((j : ℕ) → j < word_count → slice_index a.now j ≡ slice_index b.now j) (a.now ≢ b.now) }
-{
-    for i in 0..WORDS {
-        if a[i] != b[i] {
-            return false;
-        }
-    }
-    true
 }
 
 // How two words are joined, bit by bit.

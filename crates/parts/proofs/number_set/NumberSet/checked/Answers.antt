@@ -1,19 +1,20 @@
-use Rattle.std.proofs.Common.{◌≡◌, false, ◌&&◌, eqb, sym, ap, ◌∙◌}
-use Rattle.std.proofs.lemmas.Bool.{and_from, both_ways, eq-eqb}
+use Rattle.std.proofs.Common.{◌≡◌, Bool, true, false, ◌≢◌, MatchBool, MatchOption, sym, ◌∙◌, subst, rules}
+use Rattle.std.specs.Bool.{then_some}
+use Rattle.parts.specs.declared.number_set.NumberSet.{NumberSet}
 use Rattle.parts.specs.declared.numbers.Numbers.{Numbers}
-use Rattle.parts.specs.Numbers.{has}
-use Rattle.parts.proofs.Sets.{has-holds}
+use Rattle.parts.specs.Numbers.{Sound, has}
+use Rattle.parts.proofs.Sets.{held}
 use Rattle.parts.proofs.number_set.NumberSet.checked.Goals as goal
 
+told : (r : Bool) (t : NumberSet) (s : Numbers) → MatchBool r (t.numbers ≡ s) (t.numbers ≢ s) → (Sound s → t.numbers ≡ s)
+    → MatchOption (then_some r t) (Sound s → ⊥) (λ u. (u.numbers ≡ s) × Sound s)
+told true t s e f = (e, subst Sound e t.sound)
+told false t s ne f = λ d. ne (f d)
+
 -- a sound set is the one that its words make
-pub returns-then-not-agree : goal.returns-then-not-agree
-returns-then-not-agree c =
+pub returns : goal.returns
+returns c =
     let s = c.args.numbers in
-    let t = c.set_of-set.result.numbers in
-    let differ : (eqb t.count s.count && eqb t.top s.top) ≡ false = sym c.agree.ensures.value ∙ c.if-not-agree.true in
-    record {
-      answer = λ e.
-          let z : t ≡ s = c.set_of-set.ensures.whole (has s) (λ k a b. sym (has-holds s k a b)) ∙ sym e in
-          both_ways _ differ
-          (and_from (eqb t.count s.count) (eqb t.top s.top) (eq-eqb t.count s.count (ap (λ (u : Numbers). u.count) z)) (eq-eqb t.top s.top (ap (λ (u : Numbers). u.top) z)));
-    }
+    let t = c.set_of-set.result in
+    let e : MatchBool c.eq.result (t.numbers ≡ s) (t.numbers ≢ s) = search rules in
+    record { answer = rw c.then_some.ensures (told c.eq.result t s e (λ d. c.set_of-set.ensures.whole (has s) (held s) ∙ sym d)) }
