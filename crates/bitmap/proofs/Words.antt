@@ -1,6 +1,6 @@
 -- What words hold: bit by bit, by their counts of set bits and of zeros at either end, and as the words of a test.
 -- Nothing here depends on how many words there are.
-use Rattle.std.proofs.Common.{◌≡◌, ℕ, zero, suc, ◌+◌, ◌-◌, ◌*◌, ◌/◌, ◌%◌, ◌^◌, ◌<◌, ◌≤◌, Bool, true, false, cond, not, eqb, ◌≢◌, List, length, get_or, set, sym, refl, ap, ◌∙◌, subst, ap₂, inl, inr, ⊎_elim, add-zero, mod-lt, mod-eq_of_lt, pow-suc, div-add-mod', one-add, arith, lit<, get_or-set_other, get_or-set_same, pow_pos, pow_mono}
+use Rattle.std.proofs.Common.{◌≡◌, ℕ, zero, suc, ◌+◌, ◌-◌, ◌*◌, ◌/◌, ◌%◌, ◌^◌, ◌<◌, ◌≤◌, Bool, true, false, cond, not, eqb, ◌≢◌, List, length, get_or, take, set, sum_by, sym, refl, ap, ◌∙◌, subst, ap₂, inl, inr, ⊎_elim, add-zero, mod-lt, mod-eq_of_lt, pow-suc, div-add-mod', one-add, arith, lit<, get_or-set_other, get_or-set_same, pow_pos, pow_mono}
 use native.Mathlib.Nat.{div-eq_of_lt, zero-div}
 use lib.Bits.{bit_xor, xor_lt}
 use lib.Count.{leading_top, count_leading_zeros, ones, ones_cat, ones_in, count_trailing_zeros, under}
@@ -12,7 +12,8 @@ use Rattle.std.proofs.lemmas.Bool.{cases_eq, cases_lt, eq-eqb, ne_eqb}
 use Rattle.bitmap.specs.Passing.{tally}
 use Rattle.bitmap.specs.Words.{Fitted, bit_of, holds, word_of, words_of}
 use Rattle.bitmap.proofs.Bits.{bit_kept, bit_turned, digit_cond, mask_bit}
-use Rattle.bitmap.proofs.Counts.{tally_more}
+use Rattle.std.proofs.lemmas.List.Sums.{fold_more}
+use Rattle.bitmap.proofs.Counts.{tally_more, tally-none}
 
 -- ---- one number
 
@@ -43,10 +44,17 @@ pub holds_above : (ws : List ℕ) (n : ℕ) → (0 < n → holds ws n ≡ false)
 holds_above ws zero h = holds-none ws
 holds_above ws (suc n) h = h (omega arith)
 
+-- a number whose word is 0
+pub holds_zero : (ws : List ℕ) (n : ℕ) → (0 < n → get_or ws ((n - 1) / 64) 0 ≡ 0) → holds ws n ≡ false
+holds_zero ws n z =
+    holds_above ws n (λ a. holds_at ws n a ∙ ap (λ (w : ℕ). bit_of w ((n - 1) % 64)) (z a) ∙ ap (λ (x : ℕ). eqb (x % 2) 1) (zero-div (2 ^ ((n - 1) % 64))))
+
 pub holds_past : (ws : List ℕ) (n : ℕ) → 64 * length ws < n → holds ws n ≡ false
-holds_past ws n h =
-    let p : length ws ≤ (n - 1) / 64 = omega arith in
-    holds_at ws n (omega arith) ∙ ap (λ (w : ℕ). bit_of w ((n - 1) % 64)) (get_or_past ws ((n - 1) / 64) 0 p) ∙ ap (λ (x : ℕ). eqb (x % 2) 1) (zero-div (2 ^ ((n - 1) % 64)))
+holds_past ws n h = holds_zero ws n (λ a. get_or_past ws ((n - 1) / 64) 0 (omega arith))
+
+-- words that are 64 bits each where there are any
+pub fitted : (ws : List ℕ) → ((j : ℕ) → j < length ws → get_or ws j 0 < 2 ^ 64) → Fitted ws
+fitted ws h j = elim (cases_lt j (length ws)) [ inl l ↦ h j l | inr l ↦ rw (get_or_past ws j 0 l) (lit< tt) ]
 
 -- ---- one number turned over
 
@@ -119,6 +127,16 @@ tally-whole ws j h =
     let e : 64 * (j + 1) ≡ 64 * j + 64 = omega arith in
     let f : get_or ws j 0 % 2 ^ 64 ≡ get_or ws j 0 = mod-eq_of_lt h in
     ap (tally (holds ws)) e ∙ tally-word ws j 64 (omega arith) ∙ ap (λ (x : ℕ). tally (holds ws) (64 * j) + ones x) f
+
+-- and so the numbers of n words
+pub tally_words : (ws : List ℕ) (n : ℕ) → Fitted ws → n ≤ length ws → sum_by ones (take n ws) ≡ tally (holds ws) (64 * n)
+tally_words ws zero f h = sym (tally-none (holds ws))
+tally_words ws (suc n) f h =
+    let e : suc n ≡ n + 1 = omega arith in
+    rw e
+    (fold_more (λ a x. a + ones x) 0 ws n 0 (omega arith)
+    ∙ ap (λ x. x + ones (get_or ws n 0)) (tally_words ws n f (omega arith))
+    ∙ sym (tally-whole ws n (f n)))
 
 -- ---- the greatest number of the b lowest bits of word j: the leading zeros
 

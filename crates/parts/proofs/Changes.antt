@@ -32,14 +32,6 @@ turned_other s n ws t k a b ne = t k ∙ cond-false (eqb k n) (not (holds s.word
 turned_same : (s : Numbers) (n : ℕ) (ws : List ℕ) → Turned s n ws → 0 < n → n ≤ most_numbers → holds ws n ≡ not (has s n)
 turned_same s n ws t a b = t n ∙ cond-true (eqb n n) (not (holds s.words n)) (holds s.words n) (eq-eqb n n refl) ∙ ap not (sym (has-holds s n a b))
 
--- the greatest to n where n was taken out is the greatest that was below it
-pub turned_below : (s : Numbers) (n : ℕ) (ws : List ℕ) → Turned s n ws → has s n ≡ true → greatest (holds ws) n ≡ greatest (has s) (n - 1)
-turned_below s n ws t h =
-    let b = has_bounds s n h in
-    sym (greatest_skip (holds ws) (n - 1) n (omega arith)
-    (λ k u v. let e : k ≡ n = omega arith in rw e (turned_same s n ws t b.0 b.1 ∙ ap not h)))
-    ∙ greatest_same (holds ws) (has s) (n - 1) (λ k u v. turned_other s n ws t k u (omega (arith, b.1)) (omega arith))
-
 module _ (s : Numbers) (e : Sound s) (n : ℕ) where
   below_top : has s n ≡ true → n ≤ s.top
   below_top h = elim (cases_lt s.top n) [ inl l ↦ absurd (both_ways (has s n) ((sound_topped s e).1 n l) h) | inr l ↦ l ]
@@ -92,6 +84,26 @@ module _ (s : Numbers) (e : Sound s) (n : ℕ) where
             let g : s.top ≡ greatest (has s) (n - 1) = omega (arith, (greatest_is (has s) (n - 1)).0) in
             g ∙ sym (cond-true (eqb n s.top) (greatest (has s) (n - 1)) s.top (eq-eqb n s.top z)))
         | inr ne ↦ sym (cond-false (eqb n s.top) (greatest (has s) (n - 1)) s.top (ne_eqb n s.top ne))
+      ]
+
+  -- where n was the top and is taken out, the greatest that is left is the greatest that was below it
+  turned_below : has s n ≡ true → n ≡ s.top → (ws : List ℕ) → Turned s n ws → greatest (holds ws) most_numbers ≡ greatest (has s) (n - 1)
+  turned_below h z ws t =
+      let b = has_bounds s n h in
+      sym (greatest_skip (holds ws) (n - 1) most_numbers (omega (arith, b.1))
+      (λ k u v.
+      elim (cases_eq k n) [
+        | inl y ↦ rw y (turned_same s n ws t b.0 b.1 ∙ ap not h)
+        | inr ne ↦ turned_other s n ws t k (omega arith) v ne ∙ (sound_topped s e).1 k (omega arith)
+      ]))
+      ∙ greatest_same (holds ws) (has s) (n - 1) (λ k u v. turned_other s n ws t k u (omega (arith, b.1)) (omega arith))
+
+  pub turned_top : has s n ≡ true → (ws : List ℕ) → Turned s n ws
+      → cond (eqb n s.top) (greatest (holds ws) most_numbers) s.top ≡ cond (eqb n s.top) (greatest (has s) (n - 1)) s.top
+  turned_top h ws t =
+      elim (cases_eq n s.top) [
+        | inl z ↦ ap (λ g. cond (eqb n s.top) g s.top) (turned_below h z ws t)
+        | inr ne ↦ cond-false (eqb n s.top) (greatest (holds ws) most_numbers) s.top (ne_eqb n s.top ne) ∙ sym (cond-false (eqb n s.top) (greatest (has s) (n - 1)) s.top (ne_eqb n s.top ne))
       ]
 
   -- what is left has the greatest below n for its top where n was the top

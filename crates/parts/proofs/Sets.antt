@@ -8,7 +8,7 @@ pub use Rattle.bitmap.proofs.Counts.{greatest_is, greatest_of, greatest_same, gr
 use Rattle.bitmap.proofs.Words.{holds_words_of, length_words_of, words_of_fits, words_of_is}
 use Rattle.protocol.specs.Limits.{is_number, most_numbers, word_count}
 use Rattle.parts.specs.declared.numbers.Numbers.{Numbers}
-use Rattle.parts.specs.Numbers.{Sound, has, rising, set_of}
+use Rattle.parts.specs.Numbers.{IsSetOf, Sound, has, rising, set_of}
 
 -- ---- the numbers that may be in a set
 
@@ -26,6 +26,9 @@ has-holds s n a b = ap (λ t. t && holds s.words n) (number n a b)
 
 pub held : (s : Numbers) (n : ℕ) → 0 < n → n ≤ most_numbers → holds s.words n ≡ has s n
 held s n a b = sym (has-holds s n a b)
+
+pub held_by : (s : Numbers) (ws : List ℕ) → ws ≡ s.words → (n : ℕ) → 0 < n → n ≤ most_numbers → holds ws n ≡ has s n
+held_by s ws e n a b = ap (λ us. holds us n) e ∙ held s n a b
 
 pub has-number : (s : Numbers) (n : ℕ) → has s n ≡ true → is_number n ≡ true
 unfolding has
@@ -112,6 +115,9 @@ module _ (s : Numbers) (p : ℕ → Bool) (e : s ≡ set_of p) where
 
   pub top_of : s.top ≡ greatest p most_numbers
   top_of = ap (λ t. t.top) e ∙ set_of_top p
+
+  pub is_set_of : IsSetOf p s
+  is_set_of = record { members = members_of; count = count_of; top = top_of; whole = e }
 
 -- ---- of a sound set
 

@@ -1,10 +1,21 @@
 -- Sets joined bit by bit.
-use Rattle.std.specs.Prelude.{ℕ, Bool, not, ◌&&◌, ◌||◌, nat_le, nat_lt}
-use Rattle.parts.specs.declared.words.Joint.{Joint}
-use Rattle.parts.specs.declared.words.Joint.TheVariants.{And, AndNot, Or}
-use Rattle.parts.specs.declared.words.Side.{Side}
-use Rattle.parts.specs.declared.words.Side.TheVariants.{Between, Of, UpTo}
+use Rattle.std.specs.Prelude.{◌≡◌, ℕ, ◌<◌, ◌≤◌, Bool, not, List, ◌&&◌, ◌||◌, nat_le, nat_lt}
+use Rattle.bitmap.specs.Words.{holds}
+use Rattle.protocol.specs.Limits.{most_numbers}
+use Rattle.parts.specs.declared.numbers.Numbers.{Numbers}
 use Rattle.parts.specs.Numbers.{has}
+
+-- how two words are joined
+pub data Joint : Type 0 where
+  And : Joint
+  AndNot : Joint
+  Or : Joint
+
+-- what is joined: the numbers of a set, those of 1 to total, or those above one number and below another
+pub data Side : Type 0 where
+  Of : Numbers → Side
+  UpTo : ℕ → Side
+  Between : ℕ → ℕ → Side
 
 -- what becomes of two bits
 abbrev pub joins : Joint → Bool → Bool → Bool
@@ -21,3 +32,7 @@ sided (Between a b) = λ k. nat_lt a k && nat_lt k b
 -- the numbers of two sides joined
 abbrev pub joint : Joint → Side → Side → ℕ → Bool
 joint how a b = λ k. joins how (sided a k) (sided b k)
+
+-- words that hold the numbers of two others joined
+abbrev pub Joins : Joint → List ℕ → List ℕ → List ℕ → Type 0
+Joins how us vs ws = (k : ℕ) → 0 < k → k ≤ most_numbers → holds ws k ≡ joins how (holds us k) (holds vs k)

@@ -18,6 +18,13 @@ set_of p = record { words = words_of p word_count; count = tally p most_numbers;
 abbrev pub Sound : Numbers → Type 0
 Sound s = s ≡ set_of (has s)
 
+-- The set of the numbers that pass: its members, its count and its top, and the whole of it.
+pub record IsSetOf (p : ℕ → Bool) (s : Numbers) : Type 0 where
+  pub members : (k : ℕ) → has s k ≡ (is_number k && p k)
+  pub count : s.count ≡ tally p most_numbers
+  pub top : s.top ≡ greatest p most_numbers
+  pub whole : s ≡ set_of p
+
 -- The numbers of a set, rising.
 abbrev pub rising : Numbers → List ℕ
 rising s = rising_from (has s) 1 most_numbers

@@ -3,14 +3,11 @@ ghost use Rattle.std.specs.Prelude.{◌≡◌, ℕ, ◌+◌, ◌-◌, ◌<◌, �
 ghost use Rattle.bitmap.specs.Passing.{Next, Top, greatest, tally};
 ghost use Rattle.bitmap.specs.Words.{holds};
 ghost use Rattle.protocol.specs.Limits.{is_number, most_numbers};
-ghost use Rattle.parts.specs.Joints.{joint};
-ghost use Rattle.parts.specs.Numbers.{Sound, common, excluding, has, including, lacking, next_from, none, rising, set_of, united, up_to, within, without};
+ghost use Rattle.parts.specs.Numbers.{IsSetOf, Sound, common, excluding, has, including, lacking, next_from, none, rising, set_of, united, up_to, within, without};
 
 use crate::numbers::Numbers;
-use crate::words::{
-    Joint, Side, above, bit, count_of, front, joined, top_of, top_without, turned, words_of,
-};
-use protocol::{WORDS, is_number};
+use crate::words::Words;
+use protocol::is_number;
 
 // A set of fragment numbers whose words, count and top are those of its numbers.
 #[derive(Clone, Copy, PartialEq, Eq, Debug)]
@@ -24,25 +21,26 @@ pub struct NumberSet {
 }
 
 // The set that the words hold.
-fn set_of(words: [u64; WORDS]) -> NumberSet
-    ensures words { result.numbers.words ≡ words }
-    ensures whole { (p : ℕ → Bool) → ((k : ℕ) → 0 < k → k ≤ most_numbers → holds words k ≡ p k) → result.numbers ≡ set_of p }
+fn set_of(words: Words) -> NumberSet
+    ensures set { (p : ℕ → Bool) → ((k : ℕ) → 0 < k → k ≤ most_numbers → holds words.0 k ≡ p k) → IsSetOf p result.numbers }
 {
-    let count = count_of(&words);
-    let top = top_of(&words, WORDS);
+    let count = words.count();
+    let top = words.top();
+    let Words(words) = words;
     NumberSet {
         numbers: Numbers { words, count, top },
     }
 }
 
-// The set of what two sides, joined bit by bit, hold.
-fn join(how: Joint, a: Side, b: Side) -> NumberSet
-    ensures members { (k : ℕ) → has result.numbers k ≡ (is_number k && joint how a b k) }
-    ensures count { result.numbers.count ≡ tally (joint how a b) most_numbers }
-    ensures top { result.numbers.top ≡ greatest (joint how a b) most_numbers }
-    ensures whole { result.numbers ≡ set_of (joint how a b) }
+// The top of a set without its number n, the words being those that are left.
+fn top_without(numbers: &Numbers, words: &Words, n: u16) -> u16
+    ensures value { result ≡ (if nat_eq n numbers.now.top then greatest (holds words.now.0) most_numbers else numbers.now.top) }
 {
-    set_of(joined(how, &words_of(a), &words_of(b)))
+    if n == numbers.top {
+        words.top()
+    } else {
+        numbers.top
+    }
 }
 
 // Writes the lowest numbers of a sound set to the front of out, rising.
@@ -65,10 +63,10 @@ fn write_rising(set: &NumberSet, out: &mut [u16]) -> usize
 
 // The set of a plain one's numbers. Where count or top are not those of its words, they are counted anew.
 impl From<Numbers> for NumberSet {
-    ghost from_gives = { λ plain set. set.numbers ≡ set_of (has plain) };
+    ghost from_gives = { λ plain set. IsSetOf (has plain) set.numbers };
 
     fn from(numbers: Numbers) -> NumberSet {
-        set_of(numbers.words)
+        set_of(Words(numbers.words))
     }
 }
 
@@ -82,37 +80,41 @@ impl From<NumberSet> for Numbers {
 }
 
 impl NumberSet {
+    fn words(&self) -> Words
+        ensures value { result.0 ≡ self.now.numbers.words }
+    {
+        Words(self.numbers.words)
+    }
+
     // The set that a plain one stands for, if its words, count and top agree.
     pub fn checked(numbers: Numbers) -> Option<NumberSet>
         ensures answer { MatchOption result (Sound numbers → ⊥) (λ s. (s.numbers ≡ numbers) × Sound numbers) }
     {
-        let set = set_of(numbers.words);
+        let set = set_of(Words(numbers.words));
         (set.numbers == numbers).then_some(set)
     }
 
     pub fn empty() -> NumberSet
-        ensures members { (k : ℕ) → has result.numbers k ≡ (is_number k && none k) }
+        ensures set { IsSetOf none result.numbers }
         ensures count { result.numbers.count ≡ 0 }
         ensures top { result.numbers.top ≡ 0 }
-        ensures whole { result.numbers ≡ set_of none }
     {
         NumberSet::full(0)
     }
 
     // The set of 1 to total, which is taken as NUMBERS if it is above that.
     pub fn full(total: u16) -> NumberSet
-        ensures members { (k : ℕ) → has result.numbers k ≡ (is_number k && up_to total k) }
+        ensures set { IsSetOf (up_to total) result.numbers }
         ensures count { result.numbers.count ≡ min total most_numbers }
         ensures top { result.numbers.top ≡ min total most_numbers }
-        ensures whole { result.numbers ≡ set_of (up_to total) }
     {
-        set_of(front(total))
+        set_of(Words::up_to(total))
     }
 
     pub fn contains(&self, n: u16) -> bool
         ensures value { result ≡ has self.now.numbers n }
     {
-        bit(&self.numbers, n)
+        self.words().contains(n)
     }
 
     // How many numbers are in the set.
@@ -142,10 +144,9 @@ impl NumberSet {
 
     // The set with n in it; an n that is no number leaves it as it is.
     pub fn with(self, n: u16) -> NumberSet
-        ensures members { (k : ℕ) → has result.numbers k ≡ (is_number k && including self.numbers n k) }
+        ensures set { IsSetOf (including self.numbers n) result.numbers }
         ensures count { result.numbers.count ≡ (if is_number n && not (has self.numbers n) then self.numbers.count + 1 else self.numbers.count) }
         ensures top { result.numbers.top ≡ (if is_number n then max self.numbers.top n else self.numbers.top) }
-        ensures whole { result.numbers ≡ set_of (including self.numbers n) }
     {
         if !is_number(n) {
             return self;
@@ -153,7 +154,7 @@ impl NumberSet {
         if self.contains(n) {
             return self;
         }
-        let words = turned(self.numbers.words, n);
+        let words = self.words().turned(n).0;
         let count = self.numbers.count + 1;
         let top = self.numbers.top.max(n);
         NumberSet {
@@ -163,17 +164,17 @@ impl NumberSet {
 
     // The set without n.
     pub fn without(self, n: u16) -> NumberSet
-        ensures members { (k : ℕ) → has result.numbers k ≡ (is_number k && excluding self.numbers n k) }
+        ensures set { IsSetOf (excluding self.numbers n) result.numbers }
         ensures count { result.numbers.count ≡ (if has self.numbers n then self.numbers.count - 1 else self.numbers.count) }
         ensures top { result.numbers.top ≡ (if nat_eq n self.numbers.top then greatest (has self.numbers) (n - 1) else self.numbers.top) }
-        ensures whole { result.numbers ≡ set_of (excluding self.numbers n) }
     {
         if !self.contains(n) {
             return self;
         }
-        let words = turned(self.numbers.words, n);
+        let left = self.words().turned(n);
+        let top = top_without(&self.numbers, &left, n);
         let count = self.numbers.count - 1;
-        let top = top_without(&self.numbers, &words, n);
+        let words = left.0;
         NumberSet {
             numbers: Numbers { words, count, top },
         }
@@ -181,56 +182,37 @@ impl NumberSet {
 
     // The numbers of both sets.
     pub fn and(self, other: NumberSet) -> NumberSet
-        ensures members { (k : ℕ) → has result.numbers k ≡ (is_number k && common self.numbers other.numbers k) }
-        ensures count { result.numbers.count ≡ tally (common self.numbers other.numbers) most_numbers }
-        ensures top { result.numbers.top ≡ greatest (common self.numbers other.numbers) most_numbers }
-        ensures whole { result.numbers ≡ set_of (common self.numbers other.numbers) }
+        ensures set { IsSetOf (common self.numbers other.numbers) result.numbers }
     {
-        join(Joint::And, Side::Of(self.numbers), Side::Of(other.numbers))
+        set_of(self.words() & other.words())
     }
 
     // The numbers of either set.
     pub fn or(self, other: NumberSet) -> NumberSet
-        ensures members { (k : ℕ) → has result.numbers k ≡ (is_number k && united self.numbers other.numbers k) }
-        ensures count { result.numbers.count ≡ tally (united self.numbers other.numbers) most_numbers }
-        ensures top { result.numbers.top ≡ greatest (united self.numbers other.numbers) most_numbers }
-        ensures whole { result.numbers ≡ set_of (united self.numbers other.numbers) }
+        ensures set { IsSetOf (united self.numbers other.numbers) result.numbers }
     {
-        join(Joint::Or, Side::Of(self.numbers), Side::Of(other.numbers))
+        set_of(self.words() | other.words())
     }
 
     // The numbers of this set that the other lacks.
     pub fn and_not(self, other: NumberSet) -> NumberSet
-        ensures members { (k : ℕ) → has result.numbers k ≡ (is_number k && without self.numbers other.numbers k) }
-        ensures count { result.numbers.count ≡ tally (without self.numbers other.numbers) most_numbers }
-        ensures top { result.numbers.top ≡ greatest (without self.numbers other.numbers) most_numbers }
-        ensures whole { result.numbers ≡ set_of (without self.numbers other.numbers) }
+        ensures set { IsSetOf (without self.numbers other.numbers) result.numbers }
     {
-        join(
-            Joint::AndNot,
-            Side::Of(self.numbers),
-            Side::Of(other.numbers),
-        )
+        set_of(self.words() - other.words())
     }
 
     // The numbers of 1 to total that the set lacks.
     pub fn complement_to(self, total: u16) -> NumberSet
-        ensures members { (k : ℕ) → has result.numbers k ≡ (is_number k && lacking self.numbers total k) }
-        ensures count { result.numbers.count ≡ tally (lacking self.numbers total) most_numbers }
-        ensures top { result.numbers.top ≡ greatest (lacking self.numbers total) most_numbers }
-        ensures whole { result.numbers ≡ set_of (lacking self.numbers total) }
+        ensures set { IsSetOf (lacking self.numbers total) result.numbers }
     {
-        join(Joint::AndNot, Side::UpTo(total), Side::Of(self.numbers))
+        set_of(Words::up_to(total) - self.words())
     }
 
     // The numbers of the set above a and below b.
     pub fn between(self, a: u16, b: u16) -> NumberSet
-        ensures members { (k : ℕ) → has result.numbers k ≡ (is_number k && within self.numbers a b k) }
-        ensures count { result.numbers.count ≡ tally (within self.numbers a b) most_numbers }
-        ensures top { result.numbers.top ≡ greatest (within self.numbers a b) most_numbers }
-        ensures whole { result.numbers ≡ set_of (within self.numbers a b) }
+        ensures set { IsSetOf (within self.numbers a b) result.numbers }
     {
-        join(Joint::And, Side::Of(self.numbers), Side::Between(a, b))
+        set_of(self.words() & Words::between(a, b))
     }
 
     // The lowest number of the set from n on.
@@ -239,10 +221,7 @@ impl NumberSet {
         ensures stands { Next (has self.now.numbers) n result }
         ensures number { IfSome result (λ m. (0 < m) × (m ≤ most_numbers)) }
     {
-        if n > self.numbers.top {
-            return None;
-        }
-        above(&self.numbers.words, n.saturating_sub(1))
+        self.words().above(n.saturating_sub(1))
     }
 
     // Whether some number of the set lies above a and below b.

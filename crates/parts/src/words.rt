@@ -1,131 +1,59 @@
 // The words of a set of numbers: number n is bit (n - 1) % 64 of word (n - 1) / 64.
-ghost use Rattle.std.specs.Prelude.{◌≡◌, ℕ, ◌+◌, ◌-◌, ◌*◌, ◌^◌, ◌<◌, ◌≤◌, min, not, length, if◌then◌else◌, MatchBool, ◌≢◌, nat_eq, nat_le, slice_index};
-ghost use Rattle.std.specs.Int.Count.{count_leading_zeros, count_trailing_zeros};
+ghost use Rattle.std.specs.Prelude.{◌≡◌, ℕ, ◌+◌, ◌-◌, ◌*◌, ◌^◌, ◌<◌, ◌≤◌, min, not, ◌&&◌, length, if◌then◌else◌, nat_eq, nat_le, nat_lt};
 ghost use Rattle.bitmap.specs.Passing.{Next, greatest, tally};
 ghost use Rattle.bitmap.specs.Words.{Fitted, bit_of, holds};
-ghost use Rattle.protocol.specs.Limits.{most_numbers, word_count};
-ghost use Rattle.parts.specs.Joints.{joins, sided};
-ghost use Rattle.parts.specs.Numbers.{has};
+ghost use Rattle.protocol.specs.Limits.{is_number, most_numbers, word_count};
+ghost use Rattle.parts.specs.Joints.{Joins};
+ghost use Rattle.parts.specs.Joints.Joint.{And, AndNot, Or};
 
-use crate::numbers::Numbers;
 use protocol::{WORDS, is_number};
+use std::array;
+use std::ops::{BitAnd, BitOr, Sub};
 
 // The bits of a word.
 const BITS: u16 = 64;
 
-// Whether n is in a set.
-pub(crate) fn bit(numbers: &Numbers, n: u16) -> bool
-    ensures value { result ≡ has numbers.now n }
-{
-    if !is_number(n) {
-        return false;
-    }
-    let k = n - 1;
-    (numbers.words[(k / BITS) as usize] >> (k % BITS)) % 2 == 1
-}
+#[derive(Clone, Copy)]
+pub(crate) struct Words(pub(crate) [u64; WORDS]);
 
-// The words with number n turned over: put in if it was out, and taken out if it was in.
-pub(crate) fn turned(mut words: [u64; WORDS], n: u16) -> [u64; WORDS]
-    requires low { 0 < n }
-    requires high { n ≤ most_numbers }
-    requires fits { Fitted words }
-    ensures long { length result ≡ word_count }
-    ensures fits { Fitted result }
-    ensures turns { (m : ℕ) → holds result m ≡ (if nat_eq m n then not (holds words m) else holds words m) }
-{
-    let k = n - 1;
-    words[(k / BITS) as usize] ^= 1 << (k % BITS);
-    words
-}
+// The numbers of both.
+impl BitAnd for Words {
+    type Output = Words;
 
-// The place of the highest set bit of a word, from 1 on, and 0 if there is none.
-fn high(word: u64) -> u16
-    ensures value { result ≡ 64 - count_leading_zeros 64 word }
-{
-    BITS - word.leading_zeros() as u16
-}
+    ghost bitand_gives = { λ a b r. Joins And a.0 b.0 r.0 };
 
-// How many numbers the words hold.
-pub(crate) fn count_of(words: &[u64; WORDS]) -> u16
-    ensures count { result ≡ tally (holds words.now) most_numbers }
-    ensures fits { Fitted words.now }
-{
-    let mut seen = 0;
-    for i in 0..WORDS {
-        seen += words[i].count_ones() as u16;
-    }
-    seen
-}
-
-// The greatest number that the first words hold, and 0 if there is none.
-pub(crate) fn top_of(words: &[u64; WORDS], first: usize) -> u16
-    requires within { first ≤ word_count }
-    ensures value { result ≡ greatest (holds words.now) (64 * first) }
-{
-    let mut i = first;
-    while i > 0 {
-        i -= 1;
-        let t = high(words[i]);
-        if t > 0 {
-            return i as u16 * BITS + t;
-        }
-    }
-    0
-}
-
-// The greatest number to n that the words hold, and 0 if there is none.
-fn top_to(words: &[u64; WORDS], n: u16) -> u16
-    requires low { 0 < n }
-    requires high { n ≤ most_numbers }
-    ensures value { result ≡ greatest (holds words.now) n }
-{
-    let k = n - 1;
-    let i = (k / BITS) as usize;
-    let t = high(words[i] & low_bits(k % BITS + 1));
-    if t == 0 {
-        return top_of(words, i);
-    }
-    i as u16 * BITS + t
-}
-
-// The top of a set without its number n, the words being those that are left.
-pub(crate) fn top_without(numbers: &Numbers, words: &[u64; WORDS], n: u16) -> u16
-    requires low { 0 < n }
-    requires high { n ≤ most_numbers }
-    ensures value { result ≡ (if nat_eq n numbers.now.top then greatest (holds words.now) n else numbers.now.top) }
-{
-    if n == numbers.top {
-        top_to(words, n)
-    } else {
-        numbers.top
+    fn bitand(self, other: Words) -> Words {
+        Words(array::from_fn(|i| self.0[i] & other.0[i]))
     }
 }
 
-// The place of the lowest set bit of a word, from 1 on.
-fn low(word: u64) -> u16
-    ensures value { result ≡ 1 + count_trailing_zeros 64 word }
-    ensures small { result ≤ 65 }
-{
-    1 + word.trailing_zeros() as u16
+// The numbers of either.
+impl BitOr for Words {
+    type Output = Words;
+
+    ghost bitor_gives = { λ a b r. Joins Or a.0 b.0 r.0 };
+
+    fn bitor(self, other: Words) -> Words {
+        Words(array::from_fn(|i| self.0[i] | other.0[i]))
+    }
 }
 
-// The lowest number above k that the words hold.
-pub(crate) fn above(words: &[u64; WORDS], k: u16) -> Option<u16>
-    requires within { k < most_numbers }
-    ensures next { Next (holds words.now) (k + 1) result }
+// The numbers of the first that the second lacks.
+impl Sub for Words {
+    type Output = Words;
+
+    ghost sub_gives = { λ a b r. Joins AndNot a.0 b.0 r.0 };
+
+    fn sub(self, other: Words) -> Words {
+        Words(array::from_fn(|i| lacking(self.0[i], other.0[i])))
+    }
+}
+
+// The bits of one word that another lacks.
+fn lacking(word: u64, other: u64) -> u64
+    ensures bits { (b : ℕ) → b < 64 → bit_of result b ≡ (bit_of word b && not (bit_of other b)) }
 {
-    let first = (k / BITS) as usize;
-    let part = words[first] >> (k % BITS);
-    if part != 0 {
-        return Some(k + low(part));
-    }
-    for i in first + 1..WORDS {
-        let w = words[i];
-        if w != 0 {
-            return Some(i as u16 * BITS + low(w));
-        }
-    }
-    None
+    word & !other
 }
 
 // The word whose n lowest bits are set, all of them from 64 on.
@@ -138,60 +66,81 @@ fn low_bits(n: u16) -> u64
     (1 << n) - 1
 }
 
-// The words of 1 to total.
-pub(crate) fn front(total: u16) -> [u64; WORDS]
-    ensures holds { (k : ℕ) → 0 < k → k ≤ most_numbers → holds result k ≡ nat_le k total }
-{
-    let mut words = [0; WORDS];
-    for i in 0..WORDS {
-        words[i] = low_bits(total.saturating_sub(i as u16 * BITS));
+impl Words {
+    // The numbers 1 to total.
+    pub(crate) fn up_to(total: u16) -> Words
+        ensures holds { (k : ℕ) → 0 < k → k ≤ most_numbers → holds result.0 k ≡ nat_le k total }
+    {
+        Words(array::from_fn(|i| low_bits(total.saturating_sub(i as u16 * BITS))))
     }
-    words
-}
 
-// How two words are joined, bit by bit.
-#[derive(Clone, Copy)]
-pub(crate) enum Joint {
-    And,
-    AndNot,
-    Or,
-}
-
-fn join_words(how: Joint, x: u64, y: u64) -> u64
-    ensures bits { (b : ℕ) → b < 64 → bit_of result b ≡ joins how (bit_of x b) (bit_of y b) }
-{
-    match how {
-        Joint::And => x & y,
-        Joint::AndNot => x & !y,
-        Joint::Or => x | y,
+    // The numbers above a and below b.
+    pub(crate) fn between(a: u16, b: u16) -> Words
+        ensures holds { (k : ℕ) → 0 < k → k ≤ most_numbers → holds result.0 k ≡ (nat_lt a k && nat_lt k b) }
+    {
+        Words::up_to(b.saturating_sub(1)) - Words::up_to(a)
     }
-}
 
-// Two arrays of words joined, word by word.
-pub(crate) fn joined(how: Joint, a: &[u64; WORDS], b: &[u64; WORDS]) -> [u64; WORDS]
-    ensures holds { (k : ℕ) → 0 < k → k ≤ most_numbers → holds result k ≡ joins how (holds a.now k) (holds b.now k) }
-{
-    let mut words = [0; WORDS];
-    for i in 0..WORDS {
-        words[i] = join_words(how, a[i], b[i]);
+    // Whether they hold n.
+    pub(crate) fn contains(&self, n: u16) -> bool
+        ensures value { result ≡ (is_number n && holds self.now.0 n) }
+    {
+        if !is_number(n) {
+            return false;
+        }
+        let k = n - 1;
+        (self.0[(k / BITS) as usize] >> (k % BITS)) % 2 == 1
     }
-    words
-}
 
-// What is joined: the numbers of a set, those of 1 to total, or those above one number and below another.
-#[derive(Clone, Copy)]
-pub(crate) enum Side {
-    Of(Numbers),
-    UpTo(u16),
-    Between(u16, u16),
-}
+    // These words with number n turned over: put in if it was out, and taken out if it was in.
+    pub(crate) fn turned(&self, n: u16) -> Words
+        requires low { 0 < n }
+        requires high { n ≤ most_numbers }
+        requires fits { Fitted self.now.0 }
+        ensures long { length result.0 ≡ word_count }
+        ensures fits { Fitted result.0 }
+        ensures turns { (m : ℕ) → holds result.0 m ≡ (if nat_eq m n then not (holds self.now.0 m) else holds self.now.0 m) }
+    {
+        let k = n - 1;
+        let mut words = self.0;
+        words[(k / BITS) as usize] ^= 1 << (k % BITS);
+        Words(words)
+    }
 
-pub(crate) fn words_of(side: Side) -> [u64; WORDS]
-    ensures holds { (k : ℕ) → 0 < k → k ≤ most_numbers → holds result k ≡ sided side k }
-{
-    match side {
-        Side::Of(numbers) => numbers.words,
-        Side::UpTo(total) => front(total),
-        Side::Between(a, b) => joined(Joint::AndNot, &front(b.saturating_sub(1)), &front(a)),
+    // How many numbers they hold.
+    pub(crate) fn count(&self) -> u16
+        ensures count { result ≡ tally (holds self.now.0) most_numbers }
+        ensures fits { Fitted self.now.0 }
+    {
+        let mut seen = 0;
+        for word in self.0.iter() {
+            seen += word.count_ones() as u16;
+        }
+        seen
+    }
+
+    // The greatest number, and 0 if there is none.
+    pub(crate) fn top(&self) -> u16
+        ensures value { result ≡ greatest (holds self.now.0) most_numbers }
+    {
+        let Some(i) = self.0.iter().rposition(|w| *w != 0) else {
+            return 0;
+        };
+        (i as u16 + 1) * BITS - self.0[i].leading_zeros() as u16
+    }
+
+    // The lowest number.
+    fn lowest(&self) -> Option<u16>
+        ensures next { Next (holds self.now.0) 1 result }
+    {
+        let i = self.0.iter().position(|w| *w != 0)?;
+        Some(i as u16 * BITS + 1 + self.0[i].trailing_zeros() as u16)
+    }
+
+    // The lowest number above k.
+    pub(crate) fn above(self, k: u16) -> Option<u16>
+        ensures next { Next (holds self.0) (k + 1) result }
+    {
+        (self - Words::up_to(k)).lowest()
     }
 }

@@ -17,4 +17,4 @@ returns c =
     let s = c.args.numbers in
     let t = c.set_of-set.result in
     let e : MatchBool c.eq.result (t.numbers ≡ s) (t.numbers ≢ s) = search rules in
-    record { answer = rw c.then_some.ensures (told c.eq.result t s e (λ d. c.set_of-set.ensures.whole (has s) (held s) ∙ sym d)) }
+    record { answer = rw c.then_some.ensures (told c.eq.result t s e (λ d. (c.set_of-set.ensures.set (has s) (held s)).whole ∙ sym d)) }

@@ -1,11 +1,11 @@
-use Rattle.std.proofs.Common.{◌≡◌, ℕ, ◌-◌, true, false, cond, eqb, sym, ap, ◌∙◌, arith}
+use Rattle.std.proofs.Common.{◌≡◌, ◌-◌, true, false, cond, eqb, sym, ◌∙◌, subst, arith}
 use Rattle.std.proofs.lemmas.Bool.{cond-false, cond-true}
 use Rattle.bitmap.specs.Passing.{greatest}
-use Rattle.bitmap.specs.Words.{holds}
+use Rattle.bitmap.specs.Words.{Fitted}
 use Rattle.parts.specs.declared.numbers.Numbers.{Numbers}
 use Rattle.parts.specs.Numbers.{excluding, has, set_of}
-use Rattle.parts.proofs.Changes.{turned_below, without-kept, without_new, without_some, without_top}
-use Rattle.parts.proofs.Sets.{has_bounds, members_of, sound_fits, sound_kept, sound_of}
+use Rattle.parts.proofs.Changes.{Turned, turned_top, without-kept, without_new, without_some, without_top}
+use Rattle.parts.proofs.Sets.{has_bounds, is_set_of, sound_fits, sound_kept, sound_of}
 use Rattle.parts.proofs.number_set.NumberSet.without.Goals as goal
 use Rattle.parts.proofs.number_set.NumberSet.without.Goals.{After-top_without-top}
 
@@ -16,44 +16,40 @@ returns-then-not-contains c =
     let out : has s.numbers n ≡ false = sym c.contains.ensures.value ∙ c.if-not-contains.true in
     let w = without-kept s.numbers s.sound n out in
     record {
-      members = members_of _ (excluding s.numbers n) w;
+      set = is_set_of _ (excluding s.numbers n) w;
       count = sym (cond-false _ _ _ out);
       top = without_top s.numbers s.sound n out;
-      whole = w;
     }
 
-pub turned-words-requires : goal.turned-words-requires
-turned-words-requires c =
+pub turned-left-requires : goal.turned-left-requires
+turned-left-requires c =
     let s = c.args.self in
     let b = has_bounds s.numbers c.args.n (sym c.contains.ensures.value ∙ c.if-not-contains.false) in
-    record { low = b.0; high = b.1; fits = sound_fits s.numbers s.sound }
+    record { low = b.0; high = b.1; fits = subst Fitted (sym c.words.ensures.value) (sound_fits s.numbers s.sound) }
 
 pub overflow_sub-count : goal.overflow_sub-count
 overflow_sub-count c = without_some c.args.self.numbers c.args.self.sound c.args.n (sym c.contains.ensures.value ∙ c.if-not-contains.false)
 
-pub top_without-top-requires : goal.top_without-top-requires
-top_without-top-requires c =
-    let b = has_bounds c.args.self.numbers c.args.n (sym c.contains.ensures.value ∙ c.if-not-contains.false) in record { low = b.0; high = b.1 }
+turns : (c : After-top_without-top) → Turned c.args.self.numbers c.args.n c.turned-left.result.0
+turns c m = rw c.words.ensures.value at (c.turned-left.ensures.turns m)
 
 topped : (c : After-top_without-top) → c.top_without-top.result ≡ cond (eqb c.args.n c.args.self.numbers.top) (greatest (has c.args.self.numbers) (c.args.n - 1)) c.args.self.numbers.top
 topped c =
-    let s = c.args.self.numbers in
-    let n = c.args.n in
-    let e : c.top_without-top.result ≡ cond (eqb n s.top) (greatest (holds c.turned-words.result) n) s.top = c.top_without-top.ensures.value in
-    e ∙ ap (λ (g : ℕ). cond (eqb n s.top) g s.top) (turned_below s n c.turned-words.result c.turned-words.ensures.turns (sym c.contains.ensures.value ∙ c.if-not-contains.false))
+    let s = c.args.self in
+    c.top_without-top.ensures.value ∙ turned_top s.numbers s.sound c.args.n (sym c.contains.ensures.value ∙ c.if-not-contains.false) c.turned-left.result.0 (turns c)
 
 made : (c : After-top_without-top)
-    → ◌≡◌ {A = Numbers} (record { words = c.turned-words.result; count = c.args.self.numbers.count - 1; top = c.top_without-top.result }) (set_of (excluding c.args.self.numbers c.args.n))
+    → ◌≡◌ {A = Numbers} (record { words = c.turned-left.result.0; count = c.args.self.numbers.count - 1; top = c.top_without-top.result }) (set_of (excluding c.args.self.numbers c.args.n))
 made c =
     let s = c.args.self in
     let n = c.args.n in
-    let t = c.turned-words.ensures in
+    let t = c.turned-left.ensures in
     let held : has s.numbers n ≡ true = sym c.contains.ensures.value ∙ c.if-not-contains.false in
     let some = without_some s.numbers s.sound n held in
-    without_new s.numbers s.sound n held c.turned-words.result _ _ t.long t.fits t.turns (omega arith) (topped c)
+    without_new s.numbers s.sound n held c.turned-left.result.0 _ _ t.long t.fits (turns c) (omega arith) (topped c)
 
 pub invariant_of-result : goal.invariant_of-result
-invariant_of-result c = let k = sound_kept _ (sound_of _ (excluding c.args.self.numbers c.args.n) (made c)) in record { sound = k.sound; counted = k.counted; topped = k.topped; highest = k.highest; gaps = k.gaps }
+invariant_of-result c = let k = sound_kept _ (sound_of _ (excluding c.args.self.numbers c.args.n) (made (goal.at.invariant_of-result c).After-top_without-top)) in record { sound = k.sound; counted = k.counted; topped = k.topped; highest = k.highest; gaps = k.gaps }
 
 pub returns : goal.returns
 returns c =
@@ -61,8 +57,7 @@ returns c =
     let n = c.args.n in
     let w = made (goal.at.returns c).After-top_without-top in
     record {
-      members = members_of _ (excluding s.numbers n) w;
+      set = is_set_of _ (excluding s.numbers n) w;
       count = sym (cond-true _ _ _ (sym c.contains.ensures.value ∙ c.if-not-contains.false));
       top = topped (goal.at.returns c).After-top_without-top;
-      whole = w;
     }
