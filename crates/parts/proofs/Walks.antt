@@ -78,9 +78,10 @@ rising_step s a m h =
     let b = has_bounds s m h.1 in
     rising_next (has s) a (most_numbers + 1 - a) m (most_numbers + 1) (omega (arith, h.0, b.1)) h.0 (omega (arith, b.1)) h.1 h.2
 
--- the list is written once nothing is left
-pub rising-done : (s : Numbers) (a d : ℕ) → Next (has s) a None → drop d (rising s) ≡ rising_from (has s) a (most_numbers + 1 - a) → length (rising s) ≤ d
-rising-done s a d h e = omega (arith, length-drop d (rising s), ap length (e ∙ rising_end (has s) a (most_numbers + 1 - a) h))
+pub rising-none : (s : Numbers) (a : ℕ) → Next (has s) a None → rising_from (has s) a (most_numbers + 1 - a) ≡ []
+rising-none s a h = rising_end (has s) a (most_numbers + 1 - a) h
 
 pub rising_count : (s : Numbers) → Sound s → length (rising s) ≡ s.count
 rising_count s e = length-rising (has s) most_numbers ∙ sym (sound_count s e)
+
+pub ruleset walks = (rising_step, rising-none)

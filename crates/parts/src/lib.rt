@@ -6,4 +6,5 @@ pub mod number_set;
 pub mod numbers;
 pub mod places;
 pub mod rank;
+pub mod rising;
 mod words;

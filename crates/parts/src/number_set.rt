@@ -43,24 +43,6 @@ fn top_without(numbers: &Numbers, words: &Words, n: u16) -> u16
     }
 }
 
-// Writes the lowest numbers of a sound set to the front of out, rising.
-fn write_rising(set: &NumberSet, out: &mut [u16]) -> usize
-    ensures count { result ≡ min (length out.old) set.now.numbers.count }
-    ensures written { out.new ≡ take result (rising set.now.numbers) ++ drop result out.old }
-{
-    let mut done = 0;
-    let mut from = 1;
-    while done < out.len() {
-        let Some(n) = set.next_from(from) else {
-            return done;
-        };
-        out[done] = n;
-        done += 1;
-        from = n + 1;
-    }
-    done
-}
-
 // The set of a plain one's numbers. Where count or top are not those of its words, they are counted anew.
 impl From<Numbers> for NumberSet {
     ghost from_gives = { λ plain set. IsSetOf (has plain) set.numbers };
@@ -111,6 +93,7 @@ impl NumberSet {
         set_of(Words::up_to(total))
     }
 
+    #[tactic(auto, unfolding(crate::specs::Numbers::has))]
     pub fn contains(&self, n: u16) -> bool
         ensures value { result ≡ has self.now.numbers n }
     {
@@ -232,14 +215,6 @@ impl NumberSet {
             return false;
         }
         self.next_from(a + 1).is_some_and(|n| n < b)
-    }
-
-    // Writes the lowest numbers of the set to the front of out, rising, as many as there are and it takes; tells how many.
-    pub fn lowest(&self, out: &mut [u16]) -> usize
-        ensures count { result ≡ min (length out.old) self.now.numbers.count }
-        ensures written { out.new ≡ take result (rising self.now.numbers) ++ drop result out.old }
-    {
-        write_rising(self, out)
     }
 
     // Whether two sets have the same numbers.
