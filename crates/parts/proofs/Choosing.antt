@@ -1,65 +1,8 @@
--- One more place, for a loop that keeps the foremost so far. The element x stands at i, and y at the foremost so far.
-use Rattle.std.proofs.Common.{◌≡◌, ℕ, zero, suc, ◌+◌, ◌<◌, Bool, true, false, cond, ◌&&◌, List, [], ◌∷◌, map, length, get_or, Some, None, Option, sym, refl, ap, ◌∙◌, subst, inl, inr, arith}
-use Rattle.std.proofs.lemmas.List.{get_or_read}
-use Rattle.std.proofs.lemmas.Bool.{and_cases, and_parts, both_ways, cases_Bool, cases_eq, cases_order, cond_both, cond-false, cond-true}
+-- The foremost by the definition and by the relation.
+use Rattle.std.proofs.Common.{◌≡◌, ℕ, zero, suc, ◌+◌, ◌<◌, Bool, true, false, cond, List, [], ◌∷◌, map, length, get_or, Some, None, Option, refl, ap, ◌∙◌, subst, inl, inr, arith}
+use Rattle.std.proofs.lemmas.Bool.{both_ways, cases_Bool, cases_order, cond_both, cond-false, cond-true}
 use Rattle.std.specs.Option.{option_map}
 use Rattle.parts.specs.Foremost.{Foremost, ahead_if, ahead_of, foremost_from, foremost_of}
-
-module _ {X : Type 0} (w : X → Bool) (a : X → X → Bool)
-    (one : (x y : X) → a x y ≡ true → a y x ≡ false)
-    (chain : (x y z : X) → a x y ≡ false → a y z ≡ false → a x z ≡ false)
-    (xs : List X) (i : ℕ) (x : X) (long : i < length xs) (here : x ≡ get_or xs i x) where
-  e : (d : X) → get_or xs i d ≡ x
-  e d = sym (get_or_read xs i x long here d)
-
-  pub passes : Foremost w a xs i None → w x ≡ false → Foremost w a xs (i + 1) None
-  passes h n = λ k d l. elim (cases_eq k i) [ inl z ↦ rw (z, e d) n | inr z ↦ h k d (omega arith) ]
-
-  self : a x x ≡ false
-  self = elim (cases_Bool (a x x)) [ inl t ↦ one x x t | inr f ↦ f ]
-
-  pub first : Foremost w a xs i None → w x ≡ true → Foremost w a xs (i + 1) (Some i)
-  first h y = (
-    omega arith,
-    (λ d. rw (e d) y),
-    (λ k d l m. elim (cases_eq k i)
-        [ inl z ↦ rw z (rw (e d) self) | inr z ↦ absurd (both_ways (w (get_or xs k d)) (h k d (omega arith)) m) ]),
-    λ k d l m. absurd (both_ways (w (get_or xs k d)) (h k d l) m),
-  )
-
-  -- y is the foremost so far: x takes its place where it waits and is ahead of it, and else leaves it
-  module _ (b : ℕ) (h : Foremost w a xs i (Some b)) (y : X) (there : y ≡ get_or xs b y) where
-    f : (d : X) → get_or xs b d ≡ y
-    f d = sym (get_or_read xs b y (omega (arith, h.0)) there d)
-
-    pub takes : (w x && a x y) ≡ true → Foremost w a xs (i + 1) (Some i)
-    takes q =
-        let t = and_parts (w x) (a x y) q in (
-          omega arith,
-          (λ d. rw (e d) t.0),
-          (λ k d l m. elim (cases_eq k i) [
-            | inl z ↦ rw z (rw (e d) self)
-            | inr z ↦ rw (e d) (chain (get_or xs k d) y x (rw (f d) at (h.2 k d (omega arith) m)) (one x y t.1))
-          ]),
-          λ k d l m. rw (e d)
-              (elim (cases_Bool (a x (get_or xs k d))) [
-                | inl r ↦ r
-                | inr r ↦ absurd (both_ways (a x y) (chain x (get_or xs k d) y r (rw (f d) at (h.2 k d l m))) t.1)
-              ]),
-        )
-
-    pub leaves : (w x && a x y) ≡ false → Foremost w a xs (i + 1) (Some b)
-    leaves q = (
-      omega (arith, h.0),
-      h.1,
-      (λ k d l m. elim (cases_eq k i) [
-        | inl z ↦
-            (let t : w x ≡ true = subst (λ v. w v ≡ true) (e d) (subst (λ j. w (get_or xs j d) ≡ true) z m) in
-            rw (z, e d, f d) (elim (and_cases (w x) (a x y) q) [ inl n ↦ absurd (both_ways (w x) n t) | inr n ↦ n ]))
-        | inr z ↦ h.2 k d (omega arith) m
-      ]),
-      h.3,
-    )
 
 -- ---- the foremost by the relation and by the definition are the same
 

@@ -34,7 +34,9 @@ fn delay_at(index: u8) -> u8
 fn index_of(receiver: u32, message: u32) -> u8
     ensures value { result ≡ delay_index receiver message }
 {
-    ((receiver % 256 + message % 256) % 256) as u8
+    let [receiver_low, ..] = receiver.to_le_bytes();
+    let [message_low, ..] = message.to_le_bytes();
+    receiver_low.wrapping_add(message_low)
 }
 
 // The delay of a receiver for a message. Two receivers whose low octets differ never draw the same one for one message.

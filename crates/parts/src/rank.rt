@@ -20,13 +20,6 @@ pub trait Rank {
     ghost chain: { (x y z : Self) → ahead x y ≡ false → ahead y z ≡ false → ahead x z ≡ false };
 }
 
-// Whether x waits and is ahead of another.
-fn leads<T: Rank>(x: &T, other: &T) -> bool
-    ensures value { result ≡ (T.Rank.waiting x.now && T.Rank.ahead x.now other.now) }
-{
-    x.waits() && x.before(other)
-}
-
 // The place of the foremost of what waits: nothing that waits is ahead of it, and it is the first such.
 pub fn foremost<T: Rank>(items: &[T]) -> Option<usize>
     ensures place { result ≡ foremost_of T.Rank.waiting T.Rank.ahead items.now }
@@ -34,17 +27,8 @@ pub fn foremost<T: Rank>(items: &[T]) -> Option<usize>
 {
     let mut best = None;
     for (i, x) in items.iter().enumerate() {
-        match best {
-            Some(b) => {
-                if leads(x, &items[b]) {
-                    best = Some(i);
-                }
-            }
-            None => {
-                if x.waits() {
-                    best = Some(i);
-                }
-            }
+        if x.waits() && best.is_none_or(|b: usize| x.before(&items[b])) {
+            best = Some(i);
         }
     }
     best
