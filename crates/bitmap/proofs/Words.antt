@@ -52,10 +52,6 @@ holds_zero ws n z =
 pub holds_past : (ws : List ℕ) (n : ℕ) → 64 * length ws < n → holds ws n ≡ false
 holds_past ws n h = holds_zero ws n (λ a. get_or_past ws ((n - 1) / 64) 0 (omega arith))
 
--- words that are 64 bits each where there are any
-pub fitted : (ws : List ℕ) → ((j : ℕ) → j < length ws → get_or ws j 0 < 2 ^ 64) → Fitted ws
-fitted ws h j = elim (cases_lt j (length ws)) [ inl l ↦ h j l | inr l ↦ rw (get_or_past ws j 0 l) (lit< tt) ]
-
 -- ---- one number turned over
 
 pub turned : (ws : List ℕ) (n m : ℕ) → 0 < n → (n - 1) / 64 < length ws
@@ -128,25 +124,7 @@ tally-whole ws j h =
     let f : get_or ws j 0 % 2 ^ 64 ≡ get_or ws j 0 = mod-eq_of_lt h in
     ap (tally (holds ws)) e ∙ tally-word ws j 64 (omega arith) ∙ ap (λ (x : ℕ). tally (holds ws) (64 * j) + ones x) f
 
--- and so the numbers of n words
-pub tally_words : (ws : List ℕ) (n : ℕ) → Fitted ws → n ≤ length ws → sum_by ones (take n ws) ≡ tally (holds ws) (64 * n)
-tally_words ws zero f h = sym (tally-none (holds ws))
-tally_words ws (suc n) f h =
-    let e : suc n ≡ n + 1 = omega arith in
-    rw e
-    (fold_more (λ a x. a + ones x) 0 ws n 0 (omega arith)
-    ∙ ap (λ x. x + ones (get_or ws n 0)) (tally_words ws n f (omega arith))
-    ∙ sym (tally-whole ws n (f n)))
-
 -- ---- the greatest number of the b lowest bits of word j: the leading zeros
-
--- none where these bits are 0
-pub none_under : (ws : List ℕ) (j b m : ℕ) → b ≤ 64 → m ≡ get_or ws j 0 % 2 ^ b → m ≡ 0 → (k : ℕ) → 64 * j < k → k ≤ 64 * j + b → holds ws k ≡ false
-none_under ws j b m h e z k l g =
-    let c : ℕ = k - 64 * j - 1 in
-    let q : get_or ws j 0 % 2 ^ b ≡ 0 = sym e ∙ z in
-    holds_in ws j k l (omega arith)
-    ∙ ap (λ (x : ℕ). eqb x 1) (sym (mask_bit (get_or ws j 0) b c (omega arith)) ∙ ap (λ (x : ℕ). x / 2 ^ c % 2) q ∙ ap (λ (x : ℕ). x % 2) (zero-div (2 ^ c)))
 
 top_digit : (w j : ℕ) → 2 ^ j ≤ w → w < 2 ^ suc j → w / 2 ^ j ≡ 1
 top_digit w j a b =
@@ -203,17 +181,6 @@ unfolding count_trailing_zeros
 low_bit zero n p h = absurd (let f : ⊥ = omega arith in f)
 low_bit (suc k) n p h =
     low_step k n (n % 2) refl p (λ q. low_bit k (n / 2) q (let s = pow-suc 2 k in div_below n 2 (2 ^ k) (lit< tt) (omega arith)))
-
--- none where these bits are 0
-pub none_over : (ws : List ℕ) (j s m : ℕ) → m ≡ get_or ws j 0 / 2 ^ s → m ≡ 0 → (k : ℕ) → 64 * j + s < k → k ≤ 64 * j + 64 → holds ws k ≡ false
-none_over ws j s m e z k l g =
-    let w : ℕ = get_or ws j 0 in
-    let c : ℕ = k - 64 * j - 1 - s in
-    let d : k - 64 * j - 1 ≡ s + c = omega arith in
-    let q : w / 2 ^ s ≡ 0 = sym e ∙ z in
-    holds_in ws j k (omega arith) g
-    ∙ ap (bit_of w) d
-    ∙ ap (λ (x : ℕ). eqb (x % 2) 1) (sym (shr-shr w s c) ∙ ap (λ (x : ℕ). x / 2 ^ c) q ∙ zero-div (2 ^ c))
 
 pub low_over : (ws : List ℕ) (j s m : ℕ) → m ≡ get_or ws j 0 / 2 ^ s → get_or ws j 0 < 2 ^ 64 → s < 64 → 0 < m
     → (s + count_trailing_zeros 64 m < 64) × (holds ws (64 * j + s + 1 + count_trailing_zeros 64 m) ≡ true)

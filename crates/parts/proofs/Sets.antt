@@ -1,6 +1,5 @@
 -- The plain value of a set of numbers, and what follows of a value that is one.
-use Rattle.std.proofs.Common.{◌≡◌, ℕ, ◌+◌, ◌<◌, ◌≤◌, Bool, true, false, not, ◌&&◌, leb, List, length, get_or, sym, refl, ap, ◌∙◌, subst, inl, inr, arith}
-use Rattle.std.proofs.lemmas.List.{ext_get_or}
+use Rattle.std.proofs.Common.{◌≡◌, ℕ, ◌+◌, ◌<◌, ◌≤◌, Bool, true, false, not, ◌&&◌, leb, List, length, sym, refl, ap, ◌∙◌, subst, inl, inr, arith}
 use Rattle.std.proofs.lemmas.Bool.{and_from, and_left, and_parts, and_right, cases_Bool, le-leb, leb-true, lt-leb}
 use Rattle.bitmap.specs.Passing.{Top, greatest, rising_from, tally}
 use Rattle.bitmap.specs.Words.{Fitted, holds, words_of}
@@ -159,13 +158,6 @@ module _ (s : Numbers) (e : Sound s) where
 -- sound sets with the same members are the same value
 pub sound_same : (s t : Numbers) → Sound s → Sound t → ((k : ℕ) → 0 < k → k ≤ most_numbers → has s k ≡ has t k) → s ≡ t
 sound_same s t d e h = d ∙ set_of_same (has s) (has t) h ∙ sym e
-
--- and so are sound sets with the same words
-pub sound_words : (s t : Numbers) → Sound s → Sound t → ((j : ℕ) → j < word_count → get_or s.words j 0 ≡ get_or t.words j 0) → s ≡ t
-unfolding has
-sound_words s t d e h =
-    let w : s.words ≡ t.words = ext_get_or 0 s.words t.words (sound_long s d ∙ sym (sound_long t e)) (λ j l. h j (omega (arith, sound_long s d))) in
-    sound_same s t d e (λ k a b. ap (λ ws. is_number k && holds ws k) w)
 
 -- the rising list of the set of a test
 pub rising-set_of : (p : ℕ → Bool) → rising (set_of p) ≡ rising_from p 1 most_numbers

@@ -2,7 +2,7 @@
 ghost use Rattle.std.specs.Prelude.{◌≡◌, Bool};
 ghost use Rattle.parts.specs.Places.{first_place};
 
-// A test of records.
+// A test of records: a trait, since a closure would ask its caller to show that it may be called.
 pub trait Passes<T> {
     ghost test: { Self → T → Bool };
 
