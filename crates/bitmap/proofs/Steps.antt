@@ -21,16 +21,16 @@ module _ (ws : List ℕ) where
     next-none k a = holds_zero ws k (λ _. word ((k - 1) / 64))
 
   module _ (i r : ℕ) (fits : get_or ws i 0 < 2 ^ 64) (some : 0 < get_or ws i 0) where
-    pub greatest_found : i < length ws → ((j : ℕ) → i < j → j < length ws → get_or ws j 0 ≡ 0) → r ≡ (i + 1) * 64 - count_leading_zeros 64 (get_or ws i 0)
+    pub greatest_found : i < length ws → ((j : ℕ) → i < j → j < length ws → get_or ws j 0 ≡ 0) → r ≡ i * 64 + (64 - count_leading_zeros 64 (get_or ws i 0))
         → r ≡ greatest (holds ws) (64 * length ws)
     greatest_found long zero e =
         let u = top_under ws i 64 (get_or ws i 0) (omega arith) (sym (mod-eq_of_lt fits)) some in
-        let s : r ≡ 64 * i + (64 - count_leading_zeros 64 (get_or ws i 0)) = omega (arith, u.0) in
+        let s : r ≡ 64 * i + (64 - count_leading_zeros 64 (get_or ws i 0)) = omega arith in
         rw s
         (greatest_of (holds ws) (64 * length ws) (64 * i + (64 - count_leading_zeros 64 (get_or ws i 0))) (omega (arith, u.1)) (λ _. u.2)
         (λ k a b. elim (cases_lt (64 * i + 64) k) [ inl l ↦ holds_zero ws k (λ _. zero ((k - 1) / 64) (omega arith) (omega arith)) | inr l ↦ u.3 k a l ]))
 
-    pub next_found : ((j : ℕ) → j < i → get_or ws j 0 ≡ 0) → r ≡ i * 64 + 1 + count_trailing_zeros 64 (get_or ws i 0) → Next (holds ws) 1 (Some r)
+    pub next_found : ((j : ℕ) → j < i → get_or ws j 0 ≡ 0) → r ≡ i * 64 + (1 + count_trailing_zeros 64 (get_or ws i 0)) → Next (holds ws) 1 (Some r)
     next_found zero e =
         let u = low_over ws i 0 (get_or ws i 0) (omega arith) fits (omega arith) some in
         let s : r ≡ 64 * i + 0 + 1 + count_trailing_zeros 64 (get_or ws i 0) = omega arith in

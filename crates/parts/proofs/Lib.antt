@@ -1,3 +1,4 @@
+pub mod Bitwise
 pub mod Runs
 pub mod Sets
 pub mod Changes

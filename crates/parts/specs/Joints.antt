@@ -1,6 +1,6 @@
 -- Sets joined bit by bit.
 use Rattle.std.specs.Prelude.{◌≡◌, ℕ, ◌<◌, ◌≤◌, Bool, not, List, ◌&&◌, ◌||◌, nat_le, nat_lt}
-use Rattle.bitmap.specs.Words.{holds}
+use Rattle.bitmap.specs.Words.{bit_of, holds}
 use Rattle.protocol.specs.Limits.{most_numbers}
 use Rattle.parts.specs.declared.numbers.Numbers.{Numbers}
 use Rattle.parts.specs.Numbers.{has}
@@ -36,3 +36,7 @@ joint how a b = λ k. joins how (sided a k) (sided b k)
 -- words that hold the numbers of two others joined
 abbrev pub Joins : Joint → List ℕ → List ℕ → List ℕ → Type 0
 Joins how us vs ws = (k : ℕ) → 0 < k → k ≤ most_numbers → holds ws k ≡ joins how (holds us k) (holds vs k)
+
+-- a word whose bits are those of two others joined
+pub record JoinsBits (how : Joint) (x y w : ℕ) : Type 0 where
+  pub at : (b : ℕ) → b < 64 → bit_of w b ≡ joins how (bit_of x b) (bit_of y b)

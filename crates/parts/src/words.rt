@@ -1,9 +1,10 @@
 // The words of a set of numbers: number n is bit (n - 1) % 64 of word (n - 1) / 64.
 ghost use Rattle.std.specs.Prelude.{◌≡◌, ℕ, ◌+◌, ◌-◌, ◌*◌, ◌^◌, ◌<◌, ◌≤◌, min, not, ◌&&◌, length, if◌then◌else◌, nat_eq, nat_le, nat_lt};
+ghost use Rattle.std.specs.Int.Count.{count_leading_zeros, count_trailing_zeros};
 ghost use Rattle.bitmap.specs.Passing.{Next, greatest, tally};
-ghost use Rattle.bitmap.specs.Words.{Fitted, bit_of, holds};
+ghost use Rattle.bitmap.specs.Words.{Fitted, holds};
 ghost use Rattle.protocol.specs.Limits.{is_number, most_numbers, word_count};
-ghost use Rattle.parts.specs.Joints.{Joins};
+ghost use Rattle.parts.specs.Joints.{Joins, JoinsBits};
 ghost use Rattle.parts.specs.Joints.Joint.{And, AndNot, Or};
 
 use protocol::{WORDS, is_number};
@@ -50,8 +51,9 @@ impl Sub for Words {
 }
 
 // The bits of one word that another lacks.
+#[tactic(auto, using(crate::proofs::Bitwise::lacks))]
 fn lacking(word: u64, other: u64) -> u64
-    ensures bits { (b : ℕ) → b < 64 → bit_of result b ≡ (bit_of word b && not (bit_of other b)) }
+    ensures bits { JoinsBits AndNot word other result }
 {
     word & !other
 }
@@ -64,6 +66,21 @@ fn low_bits(n: u16) -> u64
         return u64::MAX;
     }
     (1 << n) - 1
+}
+
+// The place of the highest set bit of a word, from 1 on, and 0 if there is none.
+fn high(word: u64) -> u16
+    ensures value { result ≡ 64 - count_leading_zeros 64 word }
+{
+    BITS - word.leading_zeros() as u16
+}
+
+// The place of the lowest set bit of a word, from 1 on.
+fn low(word: u64) -> u16
+    ensures value { result ≡ 1 + count_trailing_zeros 64 word }
+    ensures small { result ≤ 65 }
+{
+    1 + word.trailing_zeros() as u16
 }
 
 impl Words {
@@ -126,7 +143,7 @@ impl Words {
         let Some(i) = self.0.iter().rposition(|w| *w != 0) else {
             return 0;
         };
-        (i as u16 + 1) * BITS - self.0[i].leading_zeros() as u16
+        i as u16 * BITS + high(self.0[i])
     }
 
     // The lowest number.
@@ -134,7 +151,7 @@ impl Words {
         ensures next { Next (holds self.now.0) 1 result }
     {
         let i = self.0.iter().position(|w| *w != 0)?;
-        Some(i as u16 * BITS + 1 + self.0[i].trailing_zeros() as u16)
+        Some(i as u16 * BITS + low(self.0[i]))
     }
 
     // The lowest number above k.
