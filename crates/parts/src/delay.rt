@@ -24,6 +24,7 @@ const DELAYS: [u8; 256] = [
 ];
 
 // The delay at an index.
+#[tactic(auto, using(crate::proofs::Delays::table_is), unfolding(crate::proofs::Delays::table, crate::proofs::Delays::walk))]
 fn delay_at(index: u8) -> u8
     ensures value { result ≡ delay_at index }
 {
@@ -40,6 +41,7 @@ fn index_of(receiver: u32, message: u32) -> u8
 }
 
 // The delay of a receiver for a message. Two receivers whose low octets differ never draw the same one for one message.
+#[tactic(auto, using(crate::proofs::Delays::delays_apart, crate::proofs::Delays::delays_once), unfolding(crate::specs::Delays::delay_of))]
 pub fn delay(receiver: u32, message: u32) -> u8
     ensures value { result ≡ delay_of receiver message }
     ensures apart { (other : ℕ) → (other % 256 ≢ receiver % 256) → delay_of other message ≢ result }

@@ -211,13 +211,11 @@ impl NumberSet {
     pub fn any_between(&self, a: u16, b: u16) -> bool
         ensures value { MatchBool result ((k : ℕ) × (a < k) × (k < b) × (has self.now.numbers k ≡ true)) ((k : ℕ) → a < k → k < b → has self.now.numbers k ≡ false) }
     {
-        if a >= b {
-            return false;
-        }
-        self.next_from(a + 1).is_some_and(|n| n < b)
+        a < b && self.next_from(a + 1).is_some_and(|n| n < b)
     }
 
     // Whether two sets have the same numbers.
+    #[tactic(auto, using(crate::proofs::Sets::sound_same))]
     pub fn same(&self, other: &NumberSet) -> bool
         ensures alike { ((k : ℕ) → 0 < k → k ≤ most_numbers → has self.now.numbers k ≡ has other.now.numbers k) → self.now.numbers ≡ other.now.numbers }
         ensures value { MatchBool result (self.now.numbers ≡ other.now.numbers) (self.now.numbers ≢ other.now.numbers) }

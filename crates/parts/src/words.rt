@@ -99,6 +99,7 @@ impl Words {
     }
 
     // Whether they hold n.
+    #[tactic(auto, using(bitmap::proofs::Words::holds_at, crate::proofs::Sets::number_bounds))]
     pub(crate) fn contains(&self, n: u16) -> bool
         ensures value { result ≡ (is_number n && holds self.now.0 n) }
     {
