@@ -6,8 +6,8 @@ use Rattle.bitmap.specs.Words.{Fitted, holds}
 use Rattle.bitmap.proofs.Counts.{greatest_is, greatest_of, greatest_same, greatest_skip, tally_turn}
 use Rattle.protocol.specs.Limits.{is_number, most_numbers, word_count}
 use Rattle.parts.specs.declared.numbers.Numbers.{Numbers}
-use Rattle.parts.specs.Numbers.{Sound, excluding, has, including, set_of}
-use Rattle.parts.proofs.Sets.{has_bounds, has-holds, number, set_of_is, set_of_same, sound_count, sound_small, sound_topped}
+use Rattle.parts.specs.Numbers.{IsSetOf, Sound, excluding, has, including, set_of}
+use Rattle.parts.proofs.Sets.{has_bounds, has-holds, is_set_of, number, set_of_is, set_of_same, sound_count, sound_small, sound_topped}
 
 -- the tests at the number itself, and elsewhere
 including_same : (s : Numbers) (n k : ℕ) → k ≡ n → including s n k ≡ true
@@ -46,6 +46,12 @@ module _ (s : Numbers) (e : Sound s) (n : ℕ) where
         | inr ne ↦ sym (including_other s n k ne)
       ])
 
+  pub with_held : has s n ≡ true → IsSetOf (including s n) s
+  with_held h = is_set_of s (including s n) (with_kept (λ _. h))
+
+  pub with_none : is_number n ≡ false → IsSetOf (including s n) s
+  with_none h = is_set_of s (including s n) (with_kept (λ e. absurd (both_ways (is_number n) h e)))
+
   pub with_top : has s n ≡ true → s.top ≡ max s.top n
   with_top h = omega (arith, below_top h)
 
@@ -70,6 +76,9 @@ module _ (s : Numbers) (e : Sound s) (n : ℕ) where
   without-kept out =
       e ∙ set_of_same (has s) (excluding s n)
       (λ k a b. elim (cases_eq k n) [ inl z ↦ rw z (out ∙ sym (excluding_same s n n refl)) | inr ne ↦ sym (excluding_other s n k ne) ])
+
+  pub without_held : has s n ≡ false → IsSetOf (excluding s n) s
+  without_held h = is_set_of s (excluding s n) (without-kept h)
 
   pub without_some : has s n ≡ true → 0 < s.count
   without_some h =

@@ -1,6 +1,7 @@
 pub mod Bitwise
 pub mod Runs
 pub mod Sets
+pub mod Made
 pub mod Changes
 pub mod Walks
 pub mod Choosing

@@ -26,9 +26,6 @@ has-holds s n a b = ap (λ t. t && holds s.words n) (number n a b)
 pub held : (s : Numbers) (n : ℕ) → 0 < n → n ≤ most_numbers → holds s.words n ≡ has s n
 held s n a b = sym (has-holds s n a b)
 
-pub held_by : (s : Numbers) (ws : List ℕ) → ws ≡ s.words → (n : ℕ) → 0 < n → n ≤ most_numbers → holds ws n ≡ has s n
-held_by s ws e n a b = ap (λ us. holds us n) e ∙ held s n a b
-
 pub has-number : (s : Numbers) (n : ℕ) → has s n ≡ true → is_number n ≡ true
 unfolding has
 has-number s n h = (and_parts (is_number n) (holds s.words n) h).0

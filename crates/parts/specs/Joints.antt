@@ -34,8 +34,8 @@ abbrev pub joint : Joint → Side → Side → ℕ → Bool
 joint how a b = λ k. joins how (sided a k) (sided b k)
 
 -- words that hold the numbers of two others joined
-abbrev pub Joins : Joint → List ℕ → List ℕ → List ℕ → Type 0
-Joins how us vs ws = (k : ℕ) → 0 < k → k ≤ most_numbers → holds ws k ≡ joins how (holds us k) (holds vs k)
+pub record Joins (how : Joint) (us vs ws : List ℕ) : Type 0 where
+  pub at : (k : ℕ) → 0 < k → k ≤ most_numbers → holds ws k ≡ joins how (holds us k) (holds vs k)
 
 -- a word whose bits are those of two others joined
 pub record JoinsBits (how : Joint) (x y w : ℕ) : Type 0 where

@@ -1,6 +1,6 @@
 -- Sets of fragment numbers as they lie in a table. A rule says which numbers are in a set by a test; `set_of` is the whole plain value of
 -- that set, with its words, its true count and its top. So two sets of the same numbers are the same value.
-use Rattle.std.specs.Prelude.{◌≡◌, ℕ, ◌+◌, ◌-◌, Bool, not, ◌&&◌, ◌||◌, List, Option, ◌==◌, nat_le, nat_lt}
+use Rattle.std.specs.Prelude.{◌≡◌, ℕ, ◌+◌, ◌-◌, ◌<◌, ◌≤◌, Bool, not, ◌&&◌, ◌||◌, List, Option, ◌==◌, nat_le, nat_lt}
 pub use Rattle.bitmap.specs.Passing.{Next, Top, greatest, lowest_from, rising_from, tally}
 use Rattle.bitmap.specs.Words.{holds, words_of}
 use Rattle.protocol.specs.Limits.{is_number, most_numbers, word_count}
@@ -17,6 +17,10 @@ set_of p = record { words = words_of p word_count; count = tally p most_numbers;
 -- a set whose words, count and top are those of its numbers
 abbrev pub Sound : Numbers → Type 0
 Sound s = s ≡ set_of (has s)
+
+-- words that hold the numbers that pass
+pub record Holding (p : ℕ → Bool) (ws : List ℕ) : Type 0 where
+  pub at : (k : ℕ) → 0 < k → k ≤ most_numbers → holds ws k ≡ p k
 
 -- The set of the numbers that pass: its members, its count and its top, and the whole of it.
 pub record IsSetOf (p : ℕ → Bool) (s : Numbers) : Type 0 where

@@ -22,7 +22,7 @@ pub struct NumberSet {
 
 // The set that the words hold.
 fn set_of(words: Words) -> NumberSet
-    ensures set { (p : ℕ → Bool) → ((k : ℕ) → 0 < k → k ≤ most_numbers → holds words.0 k ≡ p k) → IsSetOf p result.numbers }
+    ensures words { result.numbers.words ≡ words.0 }
 {
     let count = words.count();
     let top = words.top();
@@ -85,6 +85,7 @@ impl NumberSet {
     }
 
     // The set of 1 to total, which is taken as NUMBERS if it is above that.
+    #[tactic(auto, using(crate::proofs::Made::up_to_set, bitmap::proofs::Counts::tally_up_to, bitmap::proofs::Counts::greatest_up_to))]
     pub fn full(total: u16) -> NumberSet
         ensures set { IsSetOf (up_to total) result.numbers }
         ensures count { result.numbers.count ≡ min total most_numbers }
@@ -126,6 +127,7 @@ impl NumberSet {
     }
 
     // The set with n in it; an n that is no number leaves it as it is.
+    #[tactic(auto, using(crate::proofs::Changes::with_top, crate::proofs::Sets::number_bounds, crate::proofs::Sets::sound_fits, crate::proofs::Sets::sound_count, bitmap::proofs::Counts::tally_le))]
     pub fn with(self, n: u16) -> NumberSet
         ensures set { IsSetOf (including self.numbers n) result.numbers }
         ensures count { result.numbers.count ≡ (if is_number n && not (has self.numbers n) then self.numbers.count + 1 else self.numbers.count) }
@@ -146,6 +148,7 @@ impl NumberSet {
     }
 
     // The set without n.
+    #[tactic(auto, using(crate::proofs::Changes::without_held, crate::proofs::Changes::without_top, crate::proofs::Changes::without_some, crate::proofs::Sets::has_bounds, crate::proofs::Sets::sound_fits))]
     pub fn without(self, n: u16) -> NumberSet
         ensures set { IsSetOf (excluding self.numbers n) result.numbers }
         ensures count { result.numbers.count ≡ (if has self.numbers n then self.numbers.count - 1 else self.numbers.count) }
@@ -164,6 +167,7 @@ impl NumberSet {
     }
 
     // The numbers of both sets.
+    #[tactic(auto, using(crate::proofs::Made::common_set))]
     pub fn and(self, other: NumberSet) -> NumberSet
         ensures set { IsSetOf (common self.numbers other.numbers) result.numbers }
     {
@@ -171,6 +175,7 @@ impl NumberSet {
     }
 
     // The numbers of either set.
+    #[tactic(auto, using(crate::proofs::Made::united_set))]
     pub fn or(self, other: NumberSet) -> NumberSet
         ensures set { IsSetOf (united self.numbers other.numbers) result.numbers }
     {
@@ -178,6 +183,7 @@ impl NumberSet {
     }
 
     // The numbers of this set that the other lacks.
+    #[tactic(auto, using(crate::proofs::Made::without_set))]
     pub fn and_not(self, other: NumberSet) -> NumberSet
         ensures set { IsSetOf (without self.numbers other.numbers) result.numbers }
     {

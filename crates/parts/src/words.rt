@@ -4,6 +4,7 @@ ghost use Rattle.std.specs.Int.Count.{count_leading_zeros, count_trailing_zeros}
 ghost use Rattle.bitmap.specs.Passing.{Next, greatest, tally};
 ghost use Rattle.bitmap.specs.Words.{Fitted, holds};
 ghost use Rattle.protocol.specs.Limits.{is_number, most_numbers, word_count};
+ghost use Rattle.parts.specs.Numbers.{Holding, up_to};
 ghost use Rattle.parts.specs.Joints.{Joins, JoinsBits};
 ghost use Rattle.parts.specs.Joints.Joint.{And, AndNot, Or};
 
@@ -86,14 +87,14 @@ fn low(word: u64) -> u16
 impl Words {
     // The numbers 1 to total.
     pub(crate) fn up_to(total: u16) -> Words
-        ensures holds { (k : ℕ) → 0 < k → k ≤ most_numbers → holds result.0 k ≡ nat_le k total }
+        ensures holds { Holding (up_to total) result.0 }
     {
         Words(array::from_fn(|i| low_bits(total.saturating_sub(i as u16 * BITS))))
     }
 
     // The numbers above a and below b.
     pub(crate) fn between(a: u16, b: u16) -> Words
-        ensures holds { (k : ℕ) → 0 < k → k ≤ most_numbers → holds result.0 k ≡ (nat_lt a k && nat_lt k b) }
+        ensures holds { Holding (λ k. nat_lt a k && nat_lt k b) result.0 }
     {
         Words::up_to(b.saturating_sub(1)) - Words::up_to(a)
     }

@@ -2,8 +2,8 @@ use Rattle.std.proofs.Common.{◌≡◌, Bool, Option, true, false, ◌≢◌, M
 use Rattle.std.specs.Bool.{then_some}
 use Rattle.parts.specs.declared.number_set.NumberSet.{NumberSet}
 use Rattle.parts.specs.declared.numbers.Numbers.{Numbers}
-use Rattle.parts.specs.Numbers.{Sound, has}
-use Rattle.parts.proofs.Sets.{held}
+use Rattle.parts.specs.Numbers.{Sound}
+use Rattle.parts.proofs.Made.{plain_set}
 use Rattle.parts.proofs.number_set.NumberSet.checked.Goals as goal
 
 told : (r : Bool) (t : NumberSet) (s : Numbers) (o : Option NumberSet) → o ≡ then_some r t → MatchBool r (t.numbers ≡ s) (t.numbers ≢ s) → (Sound s → t.numbers ≡ s)
@@ -15,4 +15,4 @@ told false t s o d ne f = rw d (λ z. ne (f z))
 pub returns : goal.returns
 returns c =
     let s = c.args.numbers in
-    record { answer = told _ _ s _ c.then_some.ensures (search rules) (λ d. (c.set_of-set.ensures.set (has s) (held s)).whole ∙ sym d) }
+    record { answer = told _ _ s _ c.then_some.ensures (search rules) (λ d. (plain_set s c.set_of-set.result.numbers c.set_of-set.result.sound c.set_of-set.ensures.words).whole ∙ sym d) }

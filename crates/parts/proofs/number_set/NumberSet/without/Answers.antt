@@ -1,34 +1,12 @@
-use Rattle.std.proofs.Common.{◌≡◌, ◌-◌, true, false, cond, eqb, sym, ◌∙◌, subst, arith}
-use Rattle.std.proofs.lemmas.Bool.{cond-false, cond-true}
+use Rattle.std.proofs.Common.{◌≡◌, ◌-◌, true, cond, eqb, sym, ◌∙◌, arith}
+use Rattle.std.proofs.lemmas.Bool.{cond-true}
 use Rattle.bitmap.specs.Passing.{greatest}
-use Rattle.bitmap.specs.Words.{Fitted}
 use Rattle.parts.specs.declared.numbers.Numbers.{Numbers}
 use Rattle.parts.specs.Numbers.{excluding, has, set_of}
-use Rattle.parts.proofs.Changes.{Turned, turned_top, without-kept, without_new, without_some, without_top}
-use Rattle.parts.proofs.Sets.{has_bounds, is_set_of, sound_fits, sound_kept, sound_of}
+use Rattle.parts.proofs.Changes.{Turned, turned_top, without_new, without_some}
+use Rattle.parts.proofs.Sets.{is_set_of, sound_kept, sound_of}
 use Rattle.parts.proofs.number_set.NumberSet.without.Goals as goal
 use Rattle.parts.proofs.number_set.NumberSet.without.Goals.{After-top_without-top}
-
-pub returns-then-not-contains : goal.returns-then-not-contains
-returns-then-not-contains c =
-    let s = c.args.self in
-    let n = c.args.n in
-    let out : has s.numbers n ≡ false = sym c.contains.ensures.value ∙ c.if-not-contains.true in
-    let w = without-kept s.numbers s.sound n out in
-    record {
-      set = is_set_of _ (excluding s.numbers n) w;
-      count = sym (cond-false _ _ _ out);
-      top = without_top s.numbers s.sound n out;
-    }
-
-pub turned-left-requires : goal.turned-left-requires
-turned-left-requires c =
-    let s = c.args.self in
-    let b = has_bounds s.numbers c.args.n (sym c.contains.ensures.value ∙ c.if-not-contains.false) in
-    record { low = b.0; high = b.1; fits = subst Fitted (sym c.words.ensures.value) (sound_fits s.numbers s.sound) }
-
-pub overflow_sub-count : goal.overflow_sub-count
-overflow_sub-count c = without_some c.args.self.numbers c.args.self.sound c.args.n (sym c.contains.ensures.value ∙ c.if-not-contains.false)
 
 turns : (c : After-top_without-top) → Turned c.args.self.numbers c.args.n c.turned-left.result.0
 turns c m = rw c.words.ensures.value at (c.turned-left.ensures.turns m)

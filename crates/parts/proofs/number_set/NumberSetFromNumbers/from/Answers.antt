@@ -1,6 +1,5 @@
-use Rattle.parts.specs.Numbers.{has}
-use Rattle.parts.proofs.Sets.{held}
+use Rattle.parts.proofs.Made.{plain_set}
 use Rattle.parts.proofs.number_set.NumberSetFromNumbers.from.Goals as goal
 
 pub returns : goal.returns
-returns c = c.set_of.ensures.set (has c.args.numbers) (held c.args.numbers)
+returns c = plain_set c.args.numbers c.set_of.result.numbers c.set_of.result.sound c.set_of.ensures.words

@@ -8,5 +8,5 @@ returns c =
     let ws = c.args.self.0 in
     let rest = c.sub.result.0 in
     record {
-      next = next_above ws rest c.args.k (omega arith) (omega arith) (λ k a b. c.sub.ensures k a b ∙ ap (λ t. holds ws k && not t) (c.up_to.ensures.holds k a b)) c.lowest.result c.lowest.ensures.next;
+      next = next_above ws rest c.args.k (omega arith) (omega arith) (λ k a b. c.sub.ensures.at k a b ∙ ap (λ t. holds ws k && not t) (c.up_to.ensures.holds.at k a b)) c.lowest.result c.lowest.ensures.next;
     }

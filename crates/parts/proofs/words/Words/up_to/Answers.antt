@@ -9,4 +9,4 @@ returns c =
     let n = c.args.total in
     let ws = c.from_fn.result in
     let made = each_made _ (λ i x. x ≡ 2 ^ min (n - i * 64) 64 - 1) _ (λ i x q k. search rules) ws 0 word_count 0 c.from_fn.ensures.items.each in
-    record { holds = front_holds ws n word_count (λ j h. let e : n - j * 64 ≡ n - 64 * j = omega arith in made j (omega arith) (omega arith) ∙ ap (λ (x : ℕ). 2 ^ min x 64 - 1) e) }
+    record { holds = record { at = front_holds ws n word_count (λ j h. let e : n - j * 64 ≡ n - 64 * j = omega arith in made j (omega arith) (omega arith) ∙ ap (λ (x : ℕ). 2 ^ min x 64 - 1) e) } }

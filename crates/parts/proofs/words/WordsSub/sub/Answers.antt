@@ -11,6 +11,8 @@ returns c =
     let us = c.args.self.0 in
     let vs = c.args.other.0 in
     let ws = c.from_fn.result in
-    joined-holds (λ x y. x && not y) us vs ws word_count
-    (λ j h.
-    (each_made _ (λ i x. JoinsBits AndNot (get_or us i 0) (get_or vs i 0) x) _ (λ i x q k. search rules) ws 0 word_count 0 c.from_fn.ensures.items.each j (omega arith) (omega arith)).at)
+    record {
+      at = joined-holds (λ x y. x && not y) us vs ws word_count
+          (λ j h.
+          (each_made _ (λ i x. JoinsBits AndNot (get_or us i 0) (get_or vs i 0) x) _ (λ i x q k. search rules) ws 0 word_count 0 c.from_fn.ensures.items.each j (omega arith) (omega arith)).at);
+    }
