@@ -3,7 +3,7 @@ use Rattle.std.proofs.Common.{◌≡◌, ℕ, zero, suc, ◌+◌, ◌<◌, Bool,
 use Rattle.std.specs.List.{position, position_from}
 use Rattle.std.specs.Option.{option_map}
 use Rattle.std.proofs.lemmas.Iterator.Adapters.{position_from-zero}
-use Rattle.std.proofs.lemmas.Bool.{cases_Bool}
+use Rattle.std.proofs.lemmas.Bool.{both_ways, cases_Bool, cases_order}
 use Rattle.parts.specs.Places.{First, first_from, first_place}
 
 -- a place more at the front
@@ -37,6 +37,24 @@ first-stands p (x ∷ xs) =
       | inl t ↦ rw t (omega arith, (λ _. t), λ k d l. absurd (let f : ⊥ = omega arith in f))
       | inr n ↦ rw (n, from_shift p 0 xs) (first_more p x xs (first_from p 0 xs) n (first-stands p xs))
     ]
+
+-- the relation has one answer
+one_first : {X : Type 0} (p : X → Bool) (xs : List X) (d : X) (o q : Option ℕ) → First p xs o → First p xs q → o ≡ q
+one_first p xs d None None h k = refl
+one_first p xs d None (Some c) h k = absurd (both_ways (p (get_or xs c d)) (h c d k.0) (k.1 d))
+one_first p xs d (Some b) None h k = absurd (both_ways (p (get_or xs b d)) (k b d h.0) (h.1 d))
+one_first p xs d (Some b) (Some c) h k =
+    elim (cases_order b c) [
+      | inl e ↦ ap Some e
+      | inr (inl l) ↦ absurd (both_ways (p (get_or xs b d)) (k.2 b d l) (h.1 d))
+      | inr (inr l) ↦ absurd (both_ways (p (get_or xs c d)) (h.2 c d l) (k.1 d))
+    ]
+
+pub first_is : {X : Type 0} (p : X → Bool) (xs : List X) (o : Option ℕ) → First p xs o → o ≡ first_place p xs
+unfolding first_place first_from
+first_is p [] None h = refl
+first_is p [] (Some b) h = absurd (let f : ⊥ = omega (arith, h.0) in f)
+first_is p (x ∷ xs) o h = one_first p (x ∷ xs) x o (first_place p (x ∷ xs)) h (first-stands p (x ∷ xs))
 
 -- std's word for it
 position_from-first : {X : Type 0} (p : X → Bool) (i : ℕ) (xs : List X) → position_from p i xs ≡ first_from p i xs
