@@ -1,11 +1,11 @@
 // Writing ACKs of one entry.
-ghost use Rattle.std.specs.Prelude.{◌≡◌, ◌+◌, ◌≤◌, length, Ok};
+ghost use Rattle.std.specs.Prelude.{◌≡◌, ◌+◌, ◌≤◌, length, Ok, refl};
 ghost use Rattle.pdu.specs.declared.Accepts.TheVariants.{Sender};
 ghost use Rattle.pdu.specs.Read.{numbers_broken, read_of};
 ghost use Rattle.pdu.specs.Said.{said_ack};
 ghost use Rattle.pdu.specs.Types.{ack_head, entry_head, longest_list};
 ghost use Rattle.pdu.specs.Write.{ack_unfit};
-ghost use Rattle.wire.specs.Written.{octets_of_ack, new_ack_in};
+ghost use Rattle.wire.specs.Written.{ack_sent, octets_of_ack, new_ack_in};
 
 use crate::entries::{ACK_COUNT, ENTRY_HEAD};
 use crate::fault::WireFault;
@@ -31,6 +31,8 @@ fn broken_place(numbers: &[u16]) -> Option<usize>
 }
 
 impl Fields for NewAck<'_> {
+    ghost answer = { ack_sent };
+
     ghost unfit = { λ a. ack_unfit a.numbers.now };
 
     ghost octets = { octets_of_ack };
@@ -61,4 +63,6 @@ impl Fields for NewAck<'_> {
         put_all(out, NUMBERS_AT, self.numbers);
         seal(out, size);
     }
+
+    ghost told = { λ pdu room. refl };
 }

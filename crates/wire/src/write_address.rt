@@ -1,11 +1,11 @@
 // Writing Addresses.
-ghost use Rattle.std.specs.Prelude.{◌≡◌, ◌≤◌, length, Ok};
+ghost use Rattle.std.specs.Prelude.{◌≡◌, ◌≤◌, length, Ok, refl};
 ghost use Rattle.pdu.specs.declared.Accepts.TheVariants.{Receiver};
 ghost use Rattle.pdu.specs.Read.{read_of, unrisen};
 ghost use Rattle.pdu.specs.Said.{said_address};
 ghost use Rattle.pdu.specs.Types.{address_head, most_destinations};
 ghost use Rattle.pdu.specs.Write.{address_unfit, placed};
-ghost use Rattle.wire.specs.Written.{pairs_of, octets_of_address, new_address_in};
+ghost use Rattle.wire.specs.Written.{address_sent, pairs_of, octets_of_address, new_address_in};
 
 use crate::destinations::DESTINATION_SIZE;
 use crate::fault::WireFault;
@@ -36,6 +36,8 @@ fn unrisen_place(destinations: &[Addressee]) -> Option<usize>
 }
 
 impl Fields for NewAddress<'_> {
+    ghost answer = { address_sent };
+
     ghost unfit = { λ a. address_unfit a.total (pairs_of a.destinations.now) };
 
     ghost octets = { octets_of_address };
@@ -63,4 +65,6 @@ impl Fields for NewAddress<'_> {
         put_all(out, ADDRESS_HEAD, self.destinations);
         seal(out, size);
     }
+
+    ghost told = { λ pdu room. refl };
 }

@@ -1,11 +1,11 @@
 // Writing Data PDUs and Discards.
-ghost use Rattle.std.specs.Prelude.{◌≡◌, None, Ok};
+ghost use Rattle.std.specs.Prelude.{◌≡◌, None, Ok, refl};
 ghost use Rattle.pdu.specs.declared.Accepts.TheVariants.{Receiver};
 ghost use Rattle.pdu.specs.Read.{read_of};
 ghost use Rattle.pdu.specs.Said.{said_data, said_discard};
 ghost use Rattle.pdu.specs.Write.{data_unfit};
 ghost use Rattle.wire.specs.Views.{data_in, discard_in};
-ghost use Rattle.wire.specs.Written.{octets_of_data, octets_of_discard};
+ghost use Rattle.wire.specs.Written.{data_sent, discard_sent, octets_of_data, octets_of_discard};
 
 use crate::fault::WireFault;
 use crate::kind::Kind;
@@ -16,6 +16,8 @@ use crate::writing::Fields;
 use protocol::{LONGEST, SHORTEST, is_number};
 
 impl Fields for Data<'_> {
+    ghost answer = { data_sent };
+
     ghost unfit = { λ d. data_unfit d.number d.fragment.now };
 
     ghost octets = { octets_of_data };
@@ -38,9 +40,13 @@ impl Fields for Data<'_> {
         put_octets(out, 16, self.fragment);
         seal(out, size);
     }
+
+    ghost told = { λ pdu room. refl };
 }
 
 impl Fields for Discard {
+    ghost answer = { discard_sent };
+
     ghost unfit = { λ _. None };
 
     ghost octets = { octets_of_discard };
@@ -61,4 +67,6 @@ impl Fields for Discard {
         put(out, 12, &self.message);
         seal(out, size);
     }
+
+    ghost told = { λ pdu room. refl };
 }

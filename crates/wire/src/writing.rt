@@ -8,8 +8,7 @@ ghost use Rattle.wire.specs.Faults.{causes};
 
 use crate::fault::WireFault;
 
-// A PDU that can be written: what its writer answers for a buffer with so much room, which specs/Written.antt has for each,
-// and what reading the octets gives back.
+// A PDU that can be written: what its writer answers for a buffer with so much room, and what reading the octets gives back.
 pub trait Written {
     ghost answer: { Self → (room : ℕ) → Result (List ℕ) Cause };
 
@@ -22,8 +21,11 @@ pub trait Written {
         ensures back { IfOk result (λ n. back self.now (take n out.new)) };
 }
 
-// The parts of a writer: which field would break its rule, the octets otherwise, and what reading them gives back.
+// The parts of a writer: what it answers, which field would break its rule, the octets otherwise, and what reading them gives
+// back.
 pub(crate) trait Fields {
+    ghost answer: { Self → (room : ℕ) → Result (List ℕ) Cause };
+
     ghost unfit: { Self → Option ℕ };
 
     ghost octets: { Self → List ℕ };
@@ -47,12 +49,14 @@ pub(crate) trait Fields {
         requires room { size ≤ length out.old }
         ensures after { out.new ≡ octets self.now ++ drop (length (octets self.now)) out.old }
         ensures back { back self.now (octets self.now) };
+
+    ghost told: { (pdu : Self) (room : ℕ) → answer pdu room ≡ sent (unfit pdu) (octets pdu) room };
 }
 
 impl<P: Fields> Written for P {
-    ghost answer = { λ pdu room. sent (P.Fields.unfit pdu) (P.Fields.octets pdu) room };
+    ghost answer = { P.Fields.answer };
 
-    ghost back = { λ pdu xs. P.Fields.back pdu xs };
+    ghost back = { P.Fields.back };
 
     fn write(&self, out: &mut [u8]) -> Result<usize, WireFault> {
         self.check()?;
