@@ -1,5 +1,5 @@
 // The stores under load, for measuring them from outside. In a round the octets are put at every number of a row, each is
-// got back, and the row is freed.
+// got back, and the row is freed. Each call has the bound itself: other languages call two of them, and see no type.
 #![tactic(auto)]
 
 ghost use Rattle.std.specs.Prelude.{◌*◌, ◌≤◌};

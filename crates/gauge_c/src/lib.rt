@@ -1,4 +1,4 @@
-// The stores under load, as a static library that other languages link.
+// The stores under load, as a static library that other languages link; so each has a name and a clause of its own.
 #![tactic(auto)]
 
 ghost use Rattle.std.specs.Prelude.{◌*◌, ◌≤◌};

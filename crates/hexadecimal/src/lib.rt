@@ -7,7 +7,7 @@ ghost use Rattle.hexadecimal.specs.Digits.{digit_of, octet_of, octets_of};
 
 use std::alloc::{AllocError, Global};
 
-// The value of a digit, `0` to `9`, `a` to `f` or `A` to `F`.
+// The value of a digit, `0` to `9`, `a` to `f` or `A` to `F`. (`char::to_digit` is of any base, and gives a u32.)
 pub fn digit(c: u8) -> Option<u8>
     ensures value { result ≡ digit_of c }
     ensures bound { IfSome result (λ d. d < 16) }

@@ -62,7 +62,7 @@ impl From<StoreFault> for EndFault {
 }
 
 impl EndFault {
-    // The number by which the cause is known.
+    // The number by which the cause is known. A fault is more than its number, so this is no `From`.
     pub fn number(&self) -> u8
         ensures value { result ≡ (refusal_of self.now).cause.number }
     {

@@ -19,7 +19,7 @@ pub enum StoreFault {
 }
 
 impl StoreFault {
-    // The number of the refusal.
+    // The number of the refusal. A fault is more than its number, so this is no `From`.
     pub fn number(&self) -> u8
         ensures answer { result ≡ (cause_of self.now).number }
     {

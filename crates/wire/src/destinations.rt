@@ -32,7 +32,7 @@ fn step(reserved: u16, left: usize) -> usize
 }
 
 impl<'a> Destinations<'a> {
-    // The first destination and the others behind it.
+    // The first destination and the others behind it. Each view reads its own parts, so each has its own step.
     #[tactic(auto, using(crate::proofs::Sets::destination_steps))]
     pub fn split_first(&self) -> Option<(Destination, Destinations<'a>)>
         ensures parts { MatchOption result (destinations_in self.now ≡ []) (λ p. destinations_in self.now ≡ destination_in p.0 ∷ destinations_in p.1) }

@@ -38,7 +38,8 @@ fn is_entry_length(length: usize) -> bool
     length >= ENTRY_HEAD && length % 2 == 0
 }
 
-// The length of the entry at a place of a datagram, or the place that is broken if none stands there.
+// The length of the entry at a place of a datagram, or the place that is broken if none stands there: a place and no refusal yet,
+// since the lowest of several is told.
 #[tactic(auto, using(crate::proofs::Sets::entry_cases))]
 fn entry_length(datagram: &[u8], place: usize) -> Result<usize, usize>
     ensures broken { entry_broken place (drop place datagram.now) ≡ place_of result }

@@ -19,7 +19,7 @@ pub enum WireFault {
 }
 
 impl WireFault {
-    // The number by which the cause is known.
+    // The number by which the cause is known. A fault is more than its number, so this is no `From`.
     pub fn number(&self) -> u8
         ensures value { result ≡ (cause_of self.now).number }
     {
