@@ -1,5 +1,6 @@
 // The stores under load, for measuring them from outside. In a round the octets are put at every number of a row, each is
-// got back, and the row is freed. Each call has the bound itself: other languages call two of them, and see no type.
+// got back, and the row is freed. Each call has the bound itself, since it ties the result to the rounds
+// asked for, which no type of the result can.
 #![tactic(auto)]
 
 ghost use Rattle.std.specs.Prelude.{◌*◌, ◌≤◌};

@@ -38,12 +38,6 @@ module _ (ys : List ℕ) (ps : List (List ℕ)) (i : ℕ) (more : i < length ps)
   pub good_octet : (x : ℕ) → o ≡ Some x → prefixed (ys ++ x ∷ []) (octets_of_pairs (drop (i + 1) ps)) ≡ prefixed ys (octets_of_pairs (drop i ps))
   good_octet x e = sym (join ys x (octets_of_pairs (drop (i + 1) ps))) ∙ sym (ap (prefixed ys) (octets_more ∙ ap (λ v. octet_before v (octets_of_pairs (drop (i + 1) ps))) e))
 
-  pub no_octet : o ≡ None → None ≡ prefixed ys (octets_of_pairs (drop i ps))
-  no_octet e = sym (ap (prefixed ys) (octets_more ∙ ap (λ v. octet_before v (octets_of_pairs (drop (i + 1) ps))) e))
-
-pub no_more : (ys : List ℕ) (ps : List (List ℕ)) (i : ℕ) → length ps ≤ i → Some ys ≡ prefixed ys (octets_of_pairs (drop i ps))
-no_more ys ps i h = ap Some (sym (append-nil ys)) ∙ sym (at_drop_all (λ qs. prefixed ys (octets_of_pairs qs)) ps i h)
-
 none_before : (o : Option ℕ) → octet_before o None ≡ None
 none_before None = refl
 none_before (Some x) = refl

@@ -7,17 +7,12 @@ ghost use Rattle.hexadecimal.specs.Digits.{digit_of, octet_of, octets_of};
 
 use std::alloc::{AllocError, Global};
 
-// The value of a digit, `0` to `9`, `a` to `f` or `A` to `F`. (`char::to_digit` is of any base, and gives a u32.)
+// The value of a digit, `0` to `9`, `a` to `f` or `A` to `F`.
 pub fn digit(c: u8) -> Option<u8>
     ensures value { result ≡ digit_of c }
     ensures bound { IfSome result (λ d. d < 16) }
 {
-    match c {
-        b'0'..=b'9' => Some(c - b'0'),
-        b'a'..=b'f' => Some(c - b'a' + 10),
-        b'A'..=b'F' => Some(c - b'A' + 10),
-        _ => None,
-    }
+    char::from(c).to_digit(16).map(|d| d as u8)
 }
 
 // The octet that two digits stand for.

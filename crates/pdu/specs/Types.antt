@@ -1,7 +1,8 @@
 -- The types of PDUs, the sizes of their parts, and which end takes which type.
-use Rattle.std.specs.Prelude.{ℕ, ◌+◌, ◌-◌, ◌/◌, Bool, ◌||◌, List, ◌==◌, codes}
+use Rattle.std.specs.Prelude.{◌≡◌, ◌≢◌, ℕ, ◌+◌, ◌-◌, ◌/◌, Bool, ◌||◌, List, Ok, Err, Result, ◌==◌, codes}
 use Rattle.protocol.specs.Limits.{longest}
 use Rattle.pdu.specs.declared.Accepts.{Accepts}
+use Rattle.pdu.specs.declared.UnknownEnd.{UnknownEnd}
 use Rattle.pdu.specs.declared.Accepts.TheVariants.{Sender, Receiver}
 
 abbrev pub data_type : ℕ
@@ -59,3 +60,8 @@ longest_list = (longest - (ack_head + entry_head)) / 2
 abbrev pub name_of : Accepts → List ℕ
 name_of Sender = codes "sender"
 name_of Receiver = codes "receiver"
+
+-- what a text names: an end, or neither
+abbrev pub Names : List ℕ → Result Accepts UnknownEnd → Type 0
+Names text (Ok end) = text ≡ name_of end
+Names text (Err _) = (text ≢ name_of Sender) × (text ≢ name_of Receiver)

@@ -4,9 +4,10 @@
 
 ghost use Rattle.std.specs.Prelude.{◌≡◌, Some};
 ghost use Rattle.pdu.specs.Examples.{example_checksums};
-ghost use Rattle.pdu.specs.Types.{name_of};
+ghost use Rattle.pdu.specs.Types.{Names, name_of};
 
 use std::fmt;
+use std::str::FromStr;
 
 // Which end reads. A sender takes ACKs; a receiver takes Data, Address, Extra_Address and Discard.
 #[derive(Clone, Copy, Debug, PartialEq, Eq)]
@@ -23,6 +24,24 @@ impl fmt::Display for Accepts {
             Accepts::Sender => "sender",
             Accepts::Receiver => "receiver",
         })
+    }
+}
+
+// No end has this name.
+#[derive(Clone, Copy, Debug, PartialEq, Eq)]
+pub struct UnknownEnd;
+
+impl FromStr for Accepts {
+    type Err = UnknownEnd;
+
+    ghost from_str_gives = { Names };
+
+    fn from_str(name: &str) -> Result<Accepts, UnknownEnd> {
+        match name {
+            "sender" => Ok(Accepts::Sender),
+            "receiver" => Ok(Accepts::Receiver),
+            _ => Err(UnknownEnd),
+        }
     }
 }
 

@@ -44,11 +44,8 @@ pub fn parse(heap: Global, text: &[u8]) -> Result<Option<Datagram>, LineError> {
 
 // The end that a line names, and what stands behind one space.
 fn addressed(line: &[u8]) -> Option<(Accepts, &str)> {
-    match str::from_utf8(line).ok()?.split_once(' ')? {
-        ("sender", digits) => Some((Accepts::Sender, digits)),
-        ("receiver", digits) => Some((Accepts::Receiver, digits)),
-        _ => None,
-    }
+    let (name, digits) = str::from_utf8(line).ok()?.split_once(' ')?;
+    Some((name.parse().ok()?, digits))
 }
 
 // `-` stands for no octets; nothing at all is malformed.

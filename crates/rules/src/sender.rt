@@ -20,7 +20,8 @@ pub struct Destination {
     pub missing: Numbers,
 }
 
-// What was submitted: of the destinations the first `count` are given. They lie in the row itself, since an end has no heap.
+// What was submitted: of the destinations the first `count` are given. They come first, without a gap, which
+// an Option for each would not say, and lie in the row itself, since an end has no heap.
 #[derive(Clone, Copy)]
 pub struct Message {
     pub identity: u32,
@@ -39,7 +40,8 @@ pub enum SenderRow {
         identity: u32,
         count: u16,
     },
-    // The Address may be due, and the numbers `due`.
+    // The Address may be due, and the numbers `due`. (`wait` and `rounds` stand in both rows that send again: two numbers read
+    // better in a rule's pattern than a struct of them.)
     Sending {
         message: Message,
         address: bool,

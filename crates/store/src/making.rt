@@ -8,7 +8,7 @@ use crate::fault::StoreFault;
 use protocol::{LEAST_WIDTH, MOST_STRINGS, MOST_WIDTH};
 
 // Refuses a width that no store has, then a limit that none has.
-// Over this `new` of each store is two lines: one for both would take as many, and a closure.
+// Over this `new` of each store is two lines, and each allocates its own parts: one for both would take as many, and a closure.
 pub(crate) fn check_sizes(width: u16, limit: u16) -> Result<(), StoreFault>
     ensures answer { causes result ≡ (if width_fits width && limit_fits limit then Ok tt else Err (making_cause width limit)) }
 {

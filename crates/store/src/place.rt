@@ -14,7 +14,7 @@ pub(crate) struct Place {
 }
 
 impl Place {
-    // None if the row or the number is out of bounds.
+    // None if the row or the number is out of bounds. (In a closure under `then`, that they are in bounds would not be known.)
     pub(crate) fn new(row: u8, number: u16) -> Option<Place>
         ensures answer { MatchOption result (in_bounds row number ≡ false) (λ p. (p.row ≡ row) × (p.number ≡ number)) }
     {

@@ -53,7 +53,7 @@ impl<'a> Destinations<'a> {
         Some((first, rest))
     }
 
-    // The destination n, counted from 0.
+    // The destination n, counted from 0. One line for each view: its contract names the view's own list.
     pub fn get(&self, n: u16) -> Option<Destination>
         ensures value { option_map destination_in result ≡ slice_get (destinations_in self.now) n }
     {

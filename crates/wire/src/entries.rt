@@ -25,10 +25,7 @@ const TIME_OPTION: usize = 8;
 fn lower_of(a: Option<usize>, b: Option<usize>) -> Option<usize>
     ensures { result ≡ lower a b }
 {
-    match (a, b) {
-        (Some(p), Some(q)) => Some(p.min(q)),
-        (p, q) => p.or(q),
-    }
+    a.into_iter().chain(b).min()
 }
 
 // An entry's length is 10 and twice the count of its numbers.
@@ -79,7 +76,7 @@ fn entry_at(datagram: &[u8], place: usize, size: usize) -> Entry<'_>
 }
 
 impl<'a> Entries<'a> {
-    // The first entry and the others behind it.
+    // The first entry and the others behind it. Each view reads its own parts, so each has its own step.
     pub fn split_first(&self) -> Option<(Entry<'a>, Entries<'a>)>
         ensures parts { MatchOption result (entries_in self.now ≡ []) (λ p. entries_in self.now ≡ entry_in p.0 ∷ entries_in p.1) }
         ensures count { IfSome result (λ p. p.1.count + 1 ≡ self.now.count) }
@@ -111,7 +108,7 @@ impl<'a> Entries<'a> {
         (left != 0 && left != TIME_OPTION).then_some(ACK_COUNT)
     }
 
-    // The lowest broken place of the entries and of what stands behind them.
+    // The lowest broken place of the entries and of what stands behind them. It walks by hand, since it judges what is left.
     pub(crate) fn broken(&self) -> Option<usize>
         ensures { result ≡ broken_in self.now }
     {
@@ -124,7 +121,7 @@ impl<'a> Entries<'a> {
         lower_of(lowest, left.end_broken())
     }
 
-    // The entry n, counted from 0.
+    // The entry n, counted from 0. One line for each view: its contract names the view's own list.
     pub fn get(&self, n: u16) -> Option<Entry<'a>>
         ensures value { option_map entry_in result ≡ slice_get (entries_in self.now) n }
     {

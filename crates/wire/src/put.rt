@@ -82,7 +82,8 @@ pub(crate) fn put<T: ToOctets<N>, const N: usize>(out: &mut [u8], place: usize, 
     put_octets(out, place, &item.to_octets());
 }
 
-// Writes items over a buffer from a place on, one behind the other.
+// Writes items over a buffer from a place on, one behind the other. Each goes by its place, since nothing is known of a slice
+// that was written through an iterator.
 pub(crate) fn put_all<T: ToOctets<N>, const N: usize>(out: &mut [u8], place: usize, items: &[T])
     requires { place + N * length items.now ≤ length out.old }
     ensures after { out.new ≡ overlaid out.old place (flat_map T.ToOctets.octets items.now) }

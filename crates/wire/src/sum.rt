@@ -11,7 +11,8 @@ fn odd_word(odd: &[u8]) -> u32
     ensures value { result ≡ word_sum odd.now }
     ensures bound { result ≤ 65535 }
 {
-    odd.first().map_or(0, |last| u32::from(*last) * 256)
+    odd.first()
+        .map_or(0, |last| u32::from(u16::from_be_bytes([*last, 0])))
 }
 
 // The plain sum of the big-endian words; at most 1,472 octets cannot overflow it.
@@ -27,7 +28,7 @@ fn summed(datagram: &[u8]) -> u32
     sum
 }
 
-// A sum with its carries added at the bottom.
+// A sum with its carries added at the bottom: the arithmetic of the Checksum, which no method has.
 fn folded(sum: u32) -> u16
     ensures { result ≡ carried (carried sum) }
 {

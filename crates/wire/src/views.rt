@@ -1,5 +1,5 @@
 // Parts of a datagram, where they lie in it. A view is walked before it is judged, so that it has as many parts as it counts
-// is promised by `read`, and not by its type.
+// is promised by `read`, and not by its type: a second type for what was judged would be no plainer.
 
 // The destinations of an Address from a place on: so many, each followed by reserved octets.
 #[derive(Clone, Copy)]

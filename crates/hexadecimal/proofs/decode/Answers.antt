@@ -1,6 +1,6 @@
 use Rattle.std.proofs.Common.{◌≡◌, ◌+◌, ◌/◌, [], ◌∷◌, ◌++◌, length, drop, vec_items, ap, ◌∙◌, arith, rules}
 use Rattle.hexadecimal.specs.Digits.{octets_of}
-use Rattle.hexadecimal.proofs.Steps.{prefixed, octets_of_pairs, paired, prefixed_none, good_octet, no_octet, no_more, odd_text}
+use Rattle.hexadecimal.proofs.Steps.{prefixed, octets_of_pairs, paired, prefixed_none, good_octet, odd_text}
 use Rattle.hexadecimal.proofs.decode.Goals as goal
 
 pub returns-in_default : goal.returns-in_default
@@ -16,16 +16,9 @@ loop-high-init c =
     ∙ ap (prefixed []) (paired n c.args.text.now whole)
     ∙ prefixed_none (octets_of c.args.text.now)
 
-pub returns-in_default-octet : goal.returns-in_default-octet
-returns-in_default-octet c =
-    record { value = no_octet (vec_items c.loop-high.octets) _ c.loop-high.high-index c.loop-high-test.true _ c.octet.ensures c.in_default-octet.is ∙ c.loop-high.invariant }
-
 pub loop-high-preserved : goal.loop-high-preserved
 loop-high-preserved c =
     let items : vec_items c.push.new.self ≡ vec_items c.loop-high.octets ++ c.in-Some.next ∷ [] = search rules in
     ap (λ ys. prefixed ys (octets_of_pairs (drop (c.loop-high.high-index + 1) c.as_chunks.result.0.now))) items
     ∙ good_octet (vec_items c.loop-high.octets) _ c.loop-high.high-index c.loop-high-test.true _ c.octet.ensures c.in-Some.next c.in-Some.is
     ∙ c.loop-high.invariant
-
-pub returns : goal.returns
-returns c = record { value = no_more (vec_items c.loop-high.octets) _ c.loop-high.high-index (omega (arith, c.loop-high-test.false)) ∙ c.loop-high.invariant }
