@@ -62,6 +62,6 @@ unfolding first_from
 position_from-first p i [] = refl
 position_from-first p i (x ∷ xs) = ap (cond (p x) (Some i)) (position_from-first p (i + 1) xs)
 
-pub first-position : {X : Type 0} (p : X → Bool) (xs : List X) → position p xs ≡ first_place p xs
+pub first_position : {X : Type 0} (p : X → Bool) (xs : List X) → position p xs ≡ first_place p xs
 unfolding first_place
-first-position p xs = position_from-zero p xs ∙ position_from-first p 0 xs
+first_position p xs = position_from-zero p xs ∙ position_from-first p 0 xs
