@@ -23,6 +23,7 @@ pub struct NumberSet {
 // The set that the words hold.
 fn set_of(words: Words) -> NumberSet
     ensures words { result.numbers.words ≡ words.0 }
+    ensures set { IsSetOf (λ k. is_number k && holds words.0 k) result.numbers }
 {
     let count = words.count();
     let top = words.top();
@@ -47,6 +48,7 @@ fn top_without(numbers: &Numbers, words: &Words, n: u16) -> u16
 impl From<Numbers> for NumberSet {
     ghost from_gives = { λ plain set. IsSetOf (has plain) set.numbers };
 
+    #[tactic(auto, unfolding(crate::specs::Numbers::has))]
     fn from(numbers: Numbers) -> NumberSet {
         set_of(Words(numbers.words))
     }
@@ -72,7 +74,7 @@ impl NumberSet {
     pub fn checked(numbers: Numbers) -> Option<NumberSet>
         ensures answer { MatchOption result (Sound numbers → ⊥) (λ s. (s.numbers ≡ numbers) × Sound numbers) }
     {
-        let set = set_of(Words(numbers.words));
+        let set = NumberSet::from(numbers);
         (set.numbers == numbers).then_some(set)
     }
 
@@ -191,6 +193,7 @@ impl NumberSet {
     }
 
     // The numbers of 1 to total that the set lacks.
+    #[tactic(auto, using(crate::proofs::Made::lacking_set))]
     pub fn complement_to(self, total: u16) -> NumberSet
         ensures set { IsSetOf (lacking self.numbers total) result.numbers }
     {
@@ -198,6 +201,7 @@ impl NumberSet {
     }
 
     // The numbers of the set above a and below b.
+    #[tactic(auto, using(crate::proofs::Made::within_set))]
     pub fn between(self, a: u16, b: u16) -> NumberSet
         ensures set { IsSetOf (within self.numbers a b) result.numbers }
     {

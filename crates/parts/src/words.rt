@@ -2,7 +2,7 @@
 ghost use Rattle.std.specs.Prelude.{◌≡◌, ℕ, ◌+◌, ◌-◌, ◌*◌, ◌^◌, ◌<◌, ◌≤◌, min, not, ◌&&◌, length, if◌then◌else◌, nat_eq, nat_le, nat_lt};
 ghost use Rattle.std.specs.Int.Count.{count_leading_zeros, count_trailing_zeros};
 ghost use Rattle.bitmap.specs.Passing.{Next, greatest, tally};
-ghost use Rattle.bitmap.specs.Words.{Fitted, holds};
+ghost use Rattle.bitmap.specs.Words.{Fitted, holds, words_of};
 ghost use Rattle.protocol.specs.Limits.{is_number, most_numbers, word_count};
 ghost use Rattle.parts.specs.Numbers.{Holding, up_to};
 ghost use Rattle.parts.specs.Joints.{Joins, JoinsBits};
@@ -87,6 +87,7 @@ fn low(word: u64) -> u16
 impl Words {
     // The numbers 1 to total.
     pub(crate) fn up_to(total: u16) -> Words
+        ensures value { result.0 ≡ words_of (up_to total) word_count }
         ensures holds { Holding (up_to total) result.0 }
     {
         Words(array::from_fn(|i| low_bits(total.saturating_sub(i as u16 * BITS))))
@@ -94,7 +95,7 @@ impl Words {
 
     // The numbers above a and below b.
     pub(crate) fn between(a: u16, b: u16) -> Words
-        ensures holds { Holding (λ k. nat_lt a k && nat_lt k b) result.0 }
+        ensures value { result.0 ≡ words_of (λ k. nat_lt a k && nat_lt k b) word_count }
     {
         Words::up_to(b.saturating_sub(1)) - Words::up_to(a)
     }
