@@ -1,6 +1,6 @@
 -- One number put into a sound set, or taken out of it.
 use Rattle.std.proofs.Common.{◌≡◌, ℕ, ◌+◌, ◌-◌, ◌<◌, ◌≤◌, max, true, false, cond, not, ◌&&◌, ◌||◌, eqb, ◌≢◌, List, length, sym, refl, ap, ◌∙◌, inl, inr, arith}
-use Rattle.std.proofs.lemmas.Bool.{and_right, both_ways, cases_eq, cases_lt, cond-false, cond-true, eq-eqb, ne_eqb, or_right}
+use Rattle.std.proofs.lemmas.Bool.{and_from, and_right, both_ways, cases_Bool, cases_eq, cases_lt, cond-false, cond-true, eq-eqb, ne_eqb, or_right}
 use Rattle.bitmap.specs.Passing.{greatest}
 use Rattle.bitmap.specs.Words.{Fitted, holds}
 use Rattle.bitmap.proofs.Counts.{greatest_is, greatest_of, greatest_same, greatest_skip, tally_turn}
@@ -37,23 +37,26 @@ module _ (s : Numbers) (e : Sound s) (n : ℕ) where
   below_top h = elim (cases_lt s.top n) [ inl l ↦ absurd (both_ways (has s n) ((sound_topped s e).1 n l) h) | inr l ↦ l ]
 
   -- where n is in it already, or is no number
-  pub with_kept : (is_number n ≡ true → has s n ≡ true) → s ≡ set_of (including s n)
-  with_kept h =
-      e ∙ set_of_same (has s) (including s n)
-      (λ k a b.
-      elim (cases_eq k n) [
-        | inl z ↦ (let y : has s k ≡ true = rw z (h (rw z at (number k a b))) in y ∙ sym (including_same s n k z))
-        | inr ne ↦ sym (including_other s n k ne)
-      ])
+  module _ (h : (is_number n && not (has s n)) ≡ false) where
+    in_it : is_number n ≡ true → has s n ≡ true
+    in_it e = elim (cases_Bool (has s n)) [ inl t ↦ t | inr f ↦ absurd (both_ways (is_number n && not (has s n)) h (and_from (is_number n) (not (has s n)) e (ap not f))) ]
 
-  pub with_held : has s n ≡ true → IsSetOf (including s n) s
-  with_held h = is_set_of s (including s n) (with_kept (λ _. h))
+    pub with_kept : IsSetOf (including s n) s
+    with_kept =
+        is_set_of s (including s n)
+        (e ∙ set_of_same (has s) (including s n)
+        (λ k a b.
+        elim (cases_eq k n) [
+          | inl z ↦ (let y : has s k ≡ true = rw z (in_it (rw z at (number k a b))) in y ∙ sym (including_same s n k z))
+          | inr ne ↦ sym (including_other s n k ne)
+        ]))
 
-  pub with_none : is_number n ≡ false → IsSetOf (including s n) s
-  with_none h = is_set_of s (including s n) (with_kept (λ e. absurd (both_ways (is_number n) h e)))
-
-  pub with_top : has s n ≡ true → s.top ≡ max s.top n
-  with_top h = omega (arith, below_top h)
+    pub with_top : s.top ≡ cond (is_number n) (max s.top n) s.top
+    with_top =
+        elim (cases_Bool (is_number n)) [
+          | inl t ↦ (let m : s.top ≡ max s.top n = omega (arith, below_top (in_it t)) in m ∙ sym (cond-true (is_number n) (max s.top n) s.top t))
+          | inr f ↦ sym (cond-false (is_number n) (max s.top n) s.top f)
+        ]
 
   pub with_new : 0 < n → n ≤ most_numbers → has s n ≡ false → (ws : List ℕ) (c t : ℕ) → length ws ≡ word_count → Fitted ws → Turned s n ws
       → c ≡ s.count + 1 → t ≡ max s.top n → ◌≡◌ {A = Numbers} (record { words = ws; count = c; top = t }) (set_of (including s n))

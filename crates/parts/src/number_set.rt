@@ -128,6 +128,13 @@ impl NumberSet {
         self.top() - self.count()
     }
 
+    // Whether n is a number that the set lacks.
+    fn lacks(&self, n: u16) -> bool
+        ensures value { result ≡ (is_number n && not (has self.now.numbers n)) }
+    {
+        is_number(n) && !self.contains(n)
+    }
+
     // The set with n in it; an n that is no number leaves it as it is.
     #[tactic(auto, using(crate::proofs::Changes::with_top, crate::proofs::Sets::number_bounds, crate::proofs::Sets::sound_fits, crate::proofs::Sets::sound_count, bitmap::proofs::Counts::tally_le))]
     pub fn with(self, n: u16) -> NumberSet
@@ -135,10 +142,7 @@ impl NumberSet {
         ensures count { result.numbers.count ≡ (if is_number n && not (has self.numbers n) then self.numbers.count + 1 else self.numbers.count) }
         ensures top { result.numbers.top ≡ (if is_number n then max self.numbers.top n else self.numbers.top) }
     {
-        if !is_number(n) {
-            return self;
-        }
-        if self.contains(n) {
+        if !self.lacks(n) {
             return self;
         }
         let words = self.words().turned(n).0;
