@@ -1,6 +1,6 @@
 -- What words hold: bit by bit, by their counts of set bits and of zeros at either end, and as the words of a test.
 -- Nothing here depends on how many words there are.
-use Rattle.std.proofs.Common.{◌≡◌, ℕ, zero, suc, ◌+◌, ◌-◌, ◌*◌, ◌/◌, ◌%◌, ◌^◌, ◌<◌, ◌≤◌, Bool, true, false, cond, not, eqb, ◌≢◌, List, length, get_or, take, set, sum_by, sym, refl, ap, ◌∙◌, subst, ap₂, inl, inr, ⊎_elim, add-zero, mod-lt, mod-eq_of_lt, pow-suc, div-add-mod', one-add, arith, lit<, get_or-set_other, get_or-set_same, pow_pos, pow_mono}
+use Rattle.std.proofs.Common.{◌≡◌, ℕ, zero, suc, ◌+◌, ◌-◌, ◌*◌, ◌/◌, ◌%◌, ◌^◌, ◌<◌, ◌≤◌, Bool, true, false, cond, not, eqb, ◌≢◌, List, length, get_or, set, sym, refl, ap, ◌∙◌, subst, ap₂, inl, inr, ⊎_elim, add-zero, mod-lt, mod-eq_of_lt, pow-suc, div-add-mod', one-add, arith, lit<, get_or-set_other, get_or-set_same, pow_pos, pow_mono}
 use native.Mathlib.Nat.{div-eq_of_lt, zero-div}
 use lib.Bits.{bit_xor, xor_lt}
 use lib.Count.{leading_top, count_leading_zeros, ones, ones_cat, ones_in, count_trailing_zeros, under}
@@ -12,8 +12,7 @@ use Rattle.std.proofs.lemmas.Bool.{cases_eq, cases_lt, eq-eqb, ne_eqb}
 use Rattle.bitmap.specs.Passing.{tally}
 use Rattle.bitmap.specs.Words.{Fitted, bit_of, holds, word_of, words_of}
 use Rattle.bitmap.proofs.Bits.{bit_kept, bit_turned, digit_cond, mask_bit}
-use Rattle.std.proofs.lemmas.List.Sums.{fold_more}
-use Rattle.bitmap.proofs.Counts.{tally_more, tally-none}
+use Rattle.bitmap.proofs.Counts.{tally_more}
 
 -- ---- one number
 
@@ -181,6 +180,17 @@ unfolding count_trailing_zeros
 low_bit zero n p h = absurd (let f : ⊥ = omega arith in f)
 low_bit (suc k) n p h =
     low_step k n (n % 2) refl p (λ q. low_bit k (n / 2) q (let s = pow-suc 2 k in div_below n 2 (2 ^ k) (lit< tt) (omega arith)))
+
+-- none where these bits are 0
+pub none_over : (ws : List ℕ) (j s m : ℕ) → m ≡ get_or ws j 0 / 2 ^ s → m ≡ 0 → (k : ℕ) → 64 * j + s < k → k ≤ 64 * j + 64 → holds ws k ≡ false
+none_over ws j s m e z k l g =
+    let w : ℕ = get_or ws j 0 in
+    let c : ℕ = k - 64 * j - 1 - s in
+    let d : k - 64 * j - 1 ≡ s + c = omega arith in
+    let q : w / 2 ^ s ≡ 0 = sym e ∙ z in
+    holds_in ws j k (omega arith) g
+    ∙ ap (bit_of w) d
+    ∙ ap (λ (x : ℕ). eqb (x % 2) 1) (sym (shr-shr w s c) ∙ ap (λ (x : ℕ). x / 2 ^ c) q ∙ zero-div (2 ^ c))
 
 pub low_over : (ws : List ℕ) (j s m : ℕ) → m ≡ get_or ws j 0 / 2 ^ s → get_or ws j 0 < 2 ^ 64 → s < 64 → 0 < m
     → (s + count_trailing_zeros 64 m < 64) × (holds ws (64 * j + s + 1 + count_trailing_zeros 64 m) ≡ true)

@@ -1,12 +1,12 @@
 -- Walks over a sound set: the next number, what lies between two, the rising list.
-use Rattle.std.proofs.Common.{◌≡◌, ℕ, ◌+◌, ◌-◌, ◌<◌, ◌≤◌, true, false, not, ◌&&◌, leb, refl, List, [], ◌∷◌, ◌++◌, length, get_or, take, drop, set, IfSome, Some, None, Option, sym, ap, ◌∙◌, inl, inr, arith}
+use Rattle.std.proofs.Common.{◌≡◌, ℕ, ◌+◌, ◌-◌, ◌<◌, ◌≤◌, List, [], ◌∷◌, ◌++◌, length, get_or, take, drop, set, IfSome, Some, None, Option, sym, ap, ◌∙◌, inl, inr, arith}
 use Rattle.std.proofs.lemmas.List.{append_assoc, drop_more, length-drop, length-take-le, set_at, take_more}
-use Rattle.std.proofs.lemmas.Bool.{and_right, both_ways, cases_lt, le-leb, lt-leb}
+use Rattle.std.proofs.lemmas.Bool.{both_ways, cases_lt}
 use Rattle.bitmap.specs.Passing.{Next, rising_from}
 use Rattle.bitmap.specs.Words.{holds}
 use Rattle.bitmap.proofs.Counts.{length-rising, next_lowest, rising_end, rising_next}
 use Rattle.bitmap.proofs.Words.{holds_above, holds_past}
-use Rattle.protocol.specs.Limits.{most_numbers, word_count}
+use Rattle.protocol.specs.Limits.{most_numbers}
 use Rattle.parts.specs.declared.numbers.Numbers.{Numbers}
 use Rattle.parts.specs.Numbers.{Sound, has, next_from, rising}
 use Rattle.parts.proofs.Sets.{has_bounds, has-holds, has_past, has_unheld, sound_count, sound_long}
@@ -32,28 +32,6 @@ next_has s e n j d (Some m) h =
       has-holds s m (omega (arith, h.0)) small ∙ h.1,
       λ k l g. has_unheld s k (holds_above s.words k (λ a. h.2 k (omega arith) g)),
     )
-
--- What words hold above n is what is left of them without 1 to n, and so the lowest of that comes next.
-module _ (ws rest : List ℕ) (n : ℕ) (long : length ws ≡ word_count) (left : length rest ≡ word_count)
-    (lies : (k : ℕ) → 0 < k → k ≤ most_numbers → holds rest k ≡ (holds ws k && not (leb k n))) where
-  past : (k : ℕ) → n < k → holds ws k ≡ holds rest k
-  past k l =
-      elim (cases_lt most_numbers k) [
-        | inl g ↦ holds_past ws k (omega (arith, long)) ∙ sym (holds_past rest k (omega (arith, left)))
-        | inr g ↦
-            elim (holds ws k) as (λ t. t ≡ (t && true)) [ true ↦ refl | false ↦ refl ]
-            ∙ ap (λ t. holds ws k && not t) (sym (lt-leb k n l)) ∙ sym (lies k (omega arith) g)
-      ]
-
-  gone : (k : ℕ) → k ≤ n → k ≤ most_numbers → holds rest k ≡ false
-  gone k l g = holds_above rest k (λ a. lies k a g ∙ and_right (holds ws k) (not (leb k n)) (ap not (le-leb k n l)))
-
-  pub next_above : (o : Option ℕ) → Next (holds rest) 1 o → Next (holds ws) (n + 1) o
-  next_above None h = λ k l. past k (omega arith) ∙ h k (omega arith)
-  next_above (Some m) h =
-      let small : m ≤ most_numbers = elim (cases_lt most_numbers m) [ inl g ↦ absurd (both_ways (holds rest m) (holds_past rest m (omega (arith, left))) h.1) | inr g ↦ g ] in
-      let l : n < m = elim (cases_lt n m) [ inl g ↦ g | inr g ↦ absurd (both_ways (holds rest m) (gone m g small) h.1) ] in
-      (omega arith, past m l ∙ h.1, λ k a b. past k (omega arith) ∙ h.2 k (omega arith) b)
 
 -- ---- the rising list
 

@@ -149,11 +149,12 @@ impl Words {
         i as u16 * BITS + high(self.0[i])
     }
 
-    // The lowest number.
-    fn lowest(&self) -> Option<u16>
-        ensures next { Next (holds self.now.0) 1 result }
+    // The lowest number of the words from one on.
+    fn lowest_from(&self, first: usize) -> Option<u16>
+        requires within { first ≤ word_count }
+        ensures next { Next (holds self.now.0) (64 * first + 1) result }
     {
-        let i = self.0.iter().position(|w| *w != 0)?;
+        let i = first + self.0[first..].iter().position(|w| *w != 0)?;
         Some(i as u16 * BITS + low(self.0[i]))
     }
 
@@ -161,6 +162,11 @@ impl Words {
     pub(crate) fn above(self, k: u16) -> Option<u16>
         ensures next { Next (holds self.0) (k + 1) result }
     {
-        (self - Words::up_to(k)).lowest()
+        let first = (k / BITS) as usize;
+        let part = *self.0.get(first)? >> (k % BITS);
+        if part != 0 {
+            return Some(k + low(part));
+        }
+        self.lowest_from(first + 1)
     }
 }
