@@ -228,7 +228,7 @@ impl NumberSet {
         a < b && self.next_from(a + 1).is_some_and(|n| n < b)
     }
 
-    // Whether two sets have the same numbers.
+    // Whether two sets have the same numbers: `==`, told with what it means.
     #[tactic(auto, using(crate::proofs::Sets::sound_same))]
     pub fn same(&self, other: &NumberSet) -> bool
         ensures alike { ((k : ℕ) → 0 < k → k ≤ most_numbers → has self.now.numbers k ≡ has other.now.numbers k) → self.now.numbers ≡ other.now.numbers }

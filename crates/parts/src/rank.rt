@@ -20,7 +20,8 @@ pub trait Rank {
     ghost chain: { (x y z : Self) → ahead x y ≡ false → ahead y z ≡ false → ahead x z ≡ false };
 }
 
-// The place of the foremost of what waits: nothing that waits is ahead of it, and it is the first such.
+// The place of the foremost of what waits: nothing that waits is ahead of it, and it is the first such. It counts along, since a
+// place is what it tells.
 pub fn foremost<T: Rank>(items: &[T]) -> Option<usize>
     ensures place { result ≡ foremost_of T.Rank.waiting T.Rank.ahead items.now }
     ensures stands { Foremost T.Rank.waiting T.Rank.ahead items.now (length items.now) result }

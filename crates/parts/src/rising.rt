@@ -39,7 +39,8 @@ impl NumberSet {
         }
     }
 
-    // Writes the lowest numbers of the set to the front of out, rising, as many as there are and it takes; tells how many.
+    // Writes the lowest numbers of the set to the front of out, rising, as many as there are and it takes; tells how many,
+    // which is why it counts along.
     #[tactic(auto, using(crate::proofs::Walks::rising_count))]
     pub fn lowest(&self, out: &mut [u16]) -> usize
         ensures count { result ≡ min (length out.old) self.now.numbers.count }

@@ -15,6 +15,8 @@ use std::ops::{BitAnd, BitOr, Sub};
 // The bits of a word.
 const BITS: u16 = 64;
 
+// The words of a set, which operators join word by word. Each operator has its own line: a function over the three would take a
+// closure and its law.
 #[derive(Clone, Copy)]
 pub(crate) struct Words(pub(crate) [u64; WORDS]);
 
