@@ -14,7 +14,6 @@ use std::alloc::{AllocError, Global};
 
 impl Grid {
     // An empty grid, once its width is checked.
-    #[tactic(auto, using(contents::proofs::Gridding::grid_made))]
     fn with_width(heap: Global, width: u16) -> Result<Grid, AllocError>
         requires { width_fits width ≡ true }
         ensures made { IfOk result (λ g. grid_of g ≡ empty_store width most_strings) }

@@ -3,6 +3,7 @@ use Rattle.std.proofs.lemmas.Bool.{cases_lt}
 use Rattle.std.proofs.lemmas.Iterator.{IsFirst-from_position, YieldsList-from_slice}
 use Rattle.std.proofs.lemmas.List.{get_or-drop, get_or_past, take_rest}
 use Rattle.std.specs.Slice.Iter.{iter_rest}
+use Rattle.protocol.specs.Limits.{word_count}
 use Rattle.bitmap.proofs.Steps.{next-none, next_found}
 use Rattle.parts.proofs.words.Words.lowest_from.Goals as goal
 use Rattle.parts.proofs.words.Words.lowest_from.Goals.{After-iter}
@@ -15,7 +16,7 @@ behind : (c : After-iter) → iter_rest c.iter.result ≡ drop c.args.first c.ar
 behind c =
     let ws = c.args.self.now.0 in
     let n = c.args.first in
-    let e : 4 - n ≡ length ws - n = omega arith in
+    let e : word_count - n ≡ length ws - n = omega arith in
     c.iter.ensures.rest ∙ ap (λ m. take m (drop n ws)) e ∙ take_rest ws n
 
 pub returns-in_err-i : goal.returns-in_err-i
