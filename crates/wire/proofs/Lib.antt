@@ -5,5 +5,4 @@ pub mod Sealed
 pub mod Sets
 pub mod Shown
 pub mod Sums
-pub mod Taken
 pub mod Words

@@ -1,16 +1,7 @@
-use Rattle.std.proofs.Common.{◌≡◌, Some, refl, sym, ap, ◌∙◌, cond, subst, rules}
-use Rattle.std.specs.Iterator.{AlwaysYields}
+use Rattle.std.proofs.Common.{◌≡◌, Some, sym, ap, ◌∙◌, cond, rules}
 use Rattle.pdu.specs.Read.{unrisen_after}
-use Rattle.wire.specs.Views.{destination_in}
 use Rattle.wire.proofs.Rising.{is_unrisen, behind, at_end}
 use Rattle.wire.proofs.rules.first_unrisen.Goals as goal
-
-pub loop-d-init : goal.loop-d-init
-loop-d-init g c = (
-  search rules,
-  search rules,
-  λ ds e. (ds, subst (λ s. AlwaysYields g.I.Iterator.next_gives destination_in s ds) (sym c.into_iter-d-iterator.ensures.into_iter_gives) e, refl),
-)
 
 pub loop-d-preserved : goal.loop-d-preserved
 loop-d-preserved g c = (
