@@ -7,9 +7,6 @@ use Rattle.wire.specs.Written.{pairs_of}
 use Rattle.wire.proofs.Pairs.{length_pairs, octets_of_pairs, quads}
 use Rattle.wire.proofs.write_address.NewAddressFields.fill.Goals as goal
 
-pub overflow_cast-self : goal.overflow_cast-self
-overflow_cast-self c = omega (arith, length-destinations (pairs_of c.args.self.now.destinations.now), length_pairs c.args.self.now.destinations.now)
-
 pub put_all-requires : goal.put_all-requires
 put_all-requires c = omega (arith, length-destinations (pairs_of c.args.self.now.destinations.now), length_pairs c.args.self.now.destinations.now)
 
