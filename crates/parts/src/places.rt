@@ -10,7 +10,7 @@ pub trait Passes<T> {
         ensures value { result ≡ test self.now item.now };
 }
 
-// The place of the first that passes, in std's word for it.
+// The place of the first that passes, in std's word for it. It stands apart so that the check finds each half alone.
 fn position_of<T, Q: Passes<T>>(test: &Q, items: &[T]) -> Option<usize>
     ensures place { result ≡ position (Q.Passes.test test.now) items.now }
 {

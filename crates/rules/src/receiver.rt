@@ -29,7 +29,8 @@ pub enum ReceiverRow {
         quiet: Option<u64>,
         held: Numbers,
     },
-    // Every number of 1 to `total` is held.
+    // Every number of 1 to `total` is held. (`label`, `expiry` and `ack` stand here as in the row before and in a record: each is
+    // read by itself in a rule's pattern.)
     Complete {
         label: Label,
         total: u16,

@@ -21,7 +21,7 @@ pub struct Destination {
 }
 
 // What was submitted: of the destinations the first `count` are given. They come first, without a gap, which
-// an Option for each would not say, and lie in the row itself, since an end has no heap.
+// an Option for each would not say; an `ArrayVec` is not `Copy`, as a row is.
 #[derive(Clone, Copy)]
 pub struct Message {
     pub identity: u32,

@@ -32,7 +32,7 @@ impl StoreFault {
         }
     }
 
-    // The values that come with it: one, or a row and a number. A list of them would need a heap.
+    // The values that come with it: one, or a row and a number. A list of at most two would be no plainer.
     pub fn values(&self) -> (u16, Option<u16>)
         ensures answer { (cause_of self.now).values ≡ result.0 ∷ option_to_list result.1 }
     {

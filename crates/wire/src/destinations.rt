@@ -62,6 +62,7 @@ impl<'a> Destinations<'a> {
     }
 }
 
+// An `impl` is of one type, so each view has its own.
 impl Iterator for Destinations<'_> {
     type Item = Destination;
 

@@ -130,6 +130,7 @@ impl<'a> Entries<'a> {
     }
 }
 
+// An `impl` is of one type, so each view has its own.
 impl<'a> Iterator for Entries<'a> {
     type Item = Entry<'a>;
 

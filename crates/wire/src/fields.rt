@@ -1,5 +1,5 @@
 // Big-endian numbers in a datagram, each by its place, since places are what is judged and printed. There is one function for each
-// width: no trait has `from_be_bytes`.
+// width, as there is one definition: no trait of std has `from_be_bytes`.
 ghost use Rattle.std.specs.Prelude.{◌≡◌, ◌+◌, ◌<◌, ◌≤◌, length, take, drop};
 ghost use Rattle.pdu.specs.Octets.{word, quad};
 

@@ -51,6 +51,7 @@ pub(crate) fn head(accepts: Accepts, octets: &[u8]) -> Result<Datagram<'_>, Wire
     if field != sum {
         return Err(WireFault::Checksum { field, sum });
     }
+    // The lower six bits of the octet; the upper two are an Address's part.
     let number = octets[3] % 64;
     let kind = kind_taken(accepts, number).ok_or(WireFault::PduType { number })?;
     Ok(Datagram { kind, octets })

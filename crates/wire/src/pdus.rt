@@ -1,4 +1,4 @@
-// What a datagram says.
+// What a datagram says. `source` and `message` stand among the other fields, as they do in the format.
 ghost use Rattle.std.specs.Prelude.{◌≡◌};
 ghost use Rattle.wire.specs.Told.{kind_in};
 
@@ -63,7 +63,7 @@ impl Pdu<'_> {
     }
 }
 
-// A destination of an Address that is to be written, with its sequence number.
+// A destination of an Address that is to be written, with its sequence number: one that has no place yet.
 #[derive(Clone, Copy)]
 pub struct Addressee {
     pub destination: u32,

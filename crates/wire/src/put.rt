@@ -25,6 +25,7 @@ pub(crate) trait ToOctets<const N: usize> {
     ghost wide: { (x : Self) → length (octets x) ≡ N };
 }
 
+// Each width has its own definition of its octets, and so its own `impl`.
 impl ToOctets<2> for u16 {
     ghost octets = { two_octets };
 
@@ -83,7 +84,7 @@ pub(crate) fn put<T: ToOctets<N>, const N: usize>(out: &mut [u8], place: usize, 
 }
 
 // Writes items over a buffer from a place on, one behind the other. Each goes by its place, since nothing is known of a slice
-// that was written through an iterator.
+// whose chunks were written through an adapter.
 pub(crate) fn put_all<T: ToOctets<N>, const N: usize>(out: &mut [u8], place: usize, items: &[T])
     requires { place + N * length items.now ≤ length out.old }
     ensures after { out.new ≡ overlaid out.old place (flat_map T.ToOctets.octets items.now) }
