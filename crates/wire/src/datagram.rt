@@ -11,42 +11,42 @@ use crate::kind::Kind;
 // A datagram whose header stands, and its type.
 #[derive(Clone, Copy)]
 pub(crate) struct Datagram<'a> {
-    pub kind: Kind,
-    pub octets: &'a [u8],
+    pub(crate) kind: Kind,
+    pub(crate) octets: &'a [u8],
     ghost long: { shortest ≤ length octets.now },
     ghost typed: { kind_number kind ≡ type_field octets.now },
 }
 
 impl Datagram<'_> {
-    pub fn priority(&self) -> u8
+    pub(crate) fn priority(&self) -> u8
         ensures { result ≡ priority_field self.now.octets.now }
     {
         self.octets[2]
     }
 
     // The part of an Address; 0 elsewhere.
-    pub fn top_bits(&self) -> u8
+    pub(crate) fn top_bits(&self) -> u8
         ensures { result ≡ top_bits self.now.octets.now }
     {
         self.octets[3] / 64
     }
 
     // A Data's number, an Address's total; 0 elsewhere.
-    pub fn number(&self) -> u16
+    pub(crate) fn number(&self) -> u16
         ensures { result ≡ number_field self.now.octets.now }
     {
         word_at(self.octets, 4)
     }
 
     // The source; in an ACK, its sender.
-    pub fn source(&self) -> u32
+    pub(crate) fn source(&self) -> u32
         ensures { result ≡ quad self.now.octets.now 8 }
     {
         quad_at(self.octets, 8)
     }
 
     // The message, but for an ACK, whose entries have theirs.
-    pub fn message(&self) -> u32
+    pub(crate) fn message(&self) -> u32
         ensures { result ≡ quad self.now.octets.now 12 }
     {
         quad_at(self.octets, 12)

@@ -1,20 +1,12 @@
-use Rattle.std.proofs.Common.{◌≡◌, ◌&&◌, get_or, ap, ◌∙◌, rules, arith}
-use lib.Bits.{bit_and}
+use Rattle.std.proofs.Common.{get_or, rules, arith}
 use Rattle.protocol.specs.Limits.{word_count}
-use Rattle.bitmap.specs.Words.{bit_of}
-use Rattle.bitmap.proofs.Bits.{bit_and_lem}
-use Rattle.bitmap.proofs.Joins.{joined-holds}
+use Rattle.parts.specs.Joints.{JoinsBits}
+use Rattle.parts.specs.Joints.Joint.{And}
+use Rattle.parts.proofs.Bitwise.{words_joined, both}
 use Rattle.parts.proofs.Runs.{each_made}
 use Rattle.parts.proofs.words.WordsBitAnd.bitand.Goals as goal
 
 pub returns : goal.returns
 returns c =
-    let us = c.args.self.0 in
-    let vs = c.args.other.0 in
-    let ws = c.from_fn.result in
-    record {
-      at = joined-holds ◌&&◌ us vs ws word_count
-          (λ j h b l.
-          ap (λ x. bit_of x b) (each_made _ (λ i x. x ≡ bit_and (get_or us i 0) (get_or vs i 0)) _ (λ i x q k. search rules) ws 0 word_count 0 c.from_fn.ensures.items.each j (omega arith) (omega arith))
-          ∙ bit_and_lem (get_or us j 0) (get_or vs j 0) b);
-    }
+    words_joined And _ _ _
+    (λ j h. each_made _ (λ i x. JoinsBits And (get_or c.args.self.0 i 0) (get_or c.args.other.0 i 0) x) _ (λ i x q k. search (rules, both)) c.from_fn.result 0 word_count 0 c.from_fn.ensures.items.each j (omega arith) (omega arith))
