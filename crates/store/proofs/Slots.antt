@@ -47,6 +47,10 @@ module _ (s : Pool) (x : Place) (i : ℕ) (e : i ≡ place_of x.row x.number) wh
     pub slot_none : o ≡ None → string_at (pool_of s) x.row x.number ≡ []
     slot_none z = pool_none (pool_kept s) x.row x.number i x.bounded e (len_read ∙ ap len_of z)
 
+    -- an empty slot, left as it is
+    pub slot_left : o ≡ None → pool_of s ≡ with_string (pool_of s) x.row x.number []
+    slot_left z = sym (string_put_none (pool_of s) x.row x.number x.bounded (ap length (slot_none z)))
+
     -- an empty slot, emptied
     pub slot_still : (o' : Option Slot) → o ≡ None → o' ≡ None
         → pool_contents s.cells.width s.limit (vec_items s.cells.bytes) (cells_of (set (vec_items s.slots) i o')) (lens_of (set (vec_items s.slots) i o'))
@@ -54,7 +58,7 @@ module _ (s : Pool) (x : Place) (i : ℕ) (e : i ≡ place_of x.row x.number) wh
     slot_still o' z z' =
         let same : set (vec_items s.slots) i o' ≡ vec_items s.slots = ap (set (vec_items s.slots) i) (z' ∙ sym z ∙ own) ∙ set-get_or (vec_items s.slots) i o in
         ap (λ t. pool_contents s.cells.width s.limit (vec_items s.cells.bytes) (cells_of t) (lens_of t)) same
-        ∙ sym (string_put_none (pool_of s) x.row x.number x.bounded (ap length (slot_none z)))
+        ∙ slot_left z
 
     -- a slot that has a string
     module _ (t : Slot) (is : o ≡ Some t) where

@@ -39,9 +39,12 @@ impl Places for Pool {
         self.slots[place.index()] = Some(Slot { cell, len });
     }
 
-    #[tactic(auto, using(crate::proofs::Slots::slot_less, crate::proofs::Slots::slot_still, crate::proofs::Slots::slot_taken))]
+    #[tactic(auto, using(crate::proofs::Slots::slot_less, crate::proofs::Slots::slot_left, crate::proofs::Slots::slot_taken))]
     fn release(&mut self, place: Place) {
-        if let Some(slot) = self.slots[place.index()].take() {
+        let index = place.index();
+        // An empty place is only looked at.
+        if let Some(slot) = self.slots[index] {
+            self.slots[index] = None;
             self.spare.give(slot.cell);
         }
     }

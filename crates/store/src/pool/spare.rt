@@ -39,6 +39,6 @@ impl Spare {
         ensures top { self.new.cells.items ≡ self.old.cells.items ++ cell ∷ [] }
         ensures room { vec_capacity self.old.cells ≤ vec_capacity self.new.cells }
     {
-        self.cells.push(cell).unwrap();
+        self.cells.push_reserved(cell);
     }
 }
