@@ -5,7 +5,7 @@ mod dump;
 mod line;
 
 use dump::Report;
-use line::{LineError, parse};
+use line::{Datagram, LineError, parse};
 use std::io::{BufRead, BufReader};
 
 fn main(rt: HostRuntime) -> anyhow::Result<()> {
@@ -26,24 +26,31 @@ fn run(rt: &HostRuntime) -> anyhow::Result<()> {
     Ok(())
 }
 
+// What a line gives. The printing stands apart, so that a line that is passed over does not pay for it.
 fn print_line(rt: &HostRuntime, number: u64, text: &[u8]) -> anyhow::Result<()> {
     match parse(rt.alloc(), text) {
         Ok(None) => Ok(()),
-        Ok(Some(datagram)) => {
-            let report = Report {
-                line: number,
-                end: datagram.end,
-                octets: &datagram.octets,
-            };
-            print!(rt; "{report}")?;
-            Ok(())
-        }
-        Err(LineError::Malformed) => {
-            println!(rt;
-                "line {number}: not a datagram; expected 'sender' or 'receiver', one space, and octets in hexadecimal or '-'"
-            )?;
-            Ok(())
-        }
+        Ok(Some(datagram)) => print_datagram(rt, number, &datagram),
+        Err(LineError::Malformed) => print_malformed(rt, number),
         Err(LineError::Memory(error)) => Err(error.into()),
     }
+}
+
+#[inline(never)]
+fn print_datagram(rt: &HostRuntime, line: u64, datagram: &Datagram) -> anyhow::Result<()> {
+    let report = Report {
+        line,
+        end: datagram.end,
+        octets: &datagram.octets,
+    };
+    print!(rt; "{report}")?;
+    Ok(())
+}
+
+#[inline(never)]
+fn print_malformed(rt: &HostRuntime, number: u64) -> anyhow::Result<()> {
+    println!(rt;
+        "line {number}: not a datagram; expected 'sender' or 'receiver', one space, and octets in hexadecimal or '-'"
+    )?;
+    Ok(())
 }
