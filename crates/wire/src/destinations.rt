@@ -38,16 +38,15 @@ impl<'a> Destinations<'a> {
         ensures parts { MatchOption result (destinations_in self.now ≡ []) (λ p. destinations_in self.now ≡ destination_in p.0 ∷ destinations_in p.1) }
         ensures count { IfSome result (λ p. p.1.count + 1 ≡ self.now.count) }
     {
-        let count = self.count.checked_sub(1)?;
         let left = self.datagram.len().saturating_sub(self.place);
-        if left < DESTINATION_SIZE {
+        if self.count == 0 || left < DESTINATION_SIZE {
             return None;
         }
         let first = destination_at(self.datagram, self.place);
         let rest = Destinations {
             datagram: self.datagram,
             place: self.place + step(self.reserved, left),
-            count,
+            count: self.count - 1,
             reserved: self.reserved,
         };
         Some((first, rest))

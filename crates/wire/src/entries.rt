@@ -83,7 +83,9 @@ impl<'a> Entries<'a> {
         ensures broken { IfSome result (λ p. broken_in self.now ≡ lower (entry_broken_in p.0) (broken_in p.1)) }
         ensures within { IfSome result (λ p. p.0.place + entry_head + 2 * length p.0.numbers.octets.now < 2 ^ 64) }
     {
-        let count = self.count.checked_sub(1)?;
+        if self.count == 0 {
+            return None;
+        }
         let Ok(length) = entry_length(self.datagram, self.place) else {
             return None;
         };
@@ -91,7 +93,7 @@ impl<'a> Entries<'a> {
         let rest = Entries {
             datagram: self.datagram,
             place: self.place + length,
-            count,
+            count: self.count - 1,
         };
         Some((first, rest))
     }
