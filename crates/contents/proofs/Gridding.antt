@@ -21,7 +21,7 @@ module _ {w held : ℕ} {bytes lens : List ℕ} (k : GridKept w bytes lens held)
   celled p h =
       ⊎_elim (λ lt. lt) (λ le. absurd (let z : get_or lens p 0 ≡ 0 = get_or_past lens p 0 (omega (arith, k.laid.1)) in let f : ⊥ = omega arith in f)) (cases_lt p most_strings)
 
-  grid_length : (r n : ℕ) → in_bounds r n ≡ true → length (string_at (grid_contents w bytes lens) r n) ≡ get_or lens (place_of r n) 0
+  pub grid_length : (r n : ℕ) → in_bounds r n ≡ true → length (string_at (grid_contents w bytes lens) r n) ≡ get_or lens (place_of r n) 0
   grid_length = held-length w most_strings most_strings bytes lens (λ p. p) k.laid.0 k.short celled
 
   pub grid_sound : Sound (grid_contents w bytes lens)
@@ -84,18 +84,18 @@ module _ {w held : ℕ} {bytes lens : List ℕ} (k : GridKept w bytes lens held)
 
     -- the length set to 0
     module _ (some : 0 < m) where
-      less : total (with_string (grid_contents w bytes lens) r n []) + 1 ≡ held
-      less = total_less (grid_contents w bytes lens) r n grid_sound h (omega (arith, long)) ∙ sym k.counted
+      pub grid_less : total (with_string (grid_contents w bytes lens) r n []) + 1 ≡ held
+      grid_less = total_less (grid_contents w bytes lens) r n grid_sound h (omega (arith, long)) ∙ sym k.counted
 
-      pub grid_less : 1 ≤ held
-      grid_less = omega (arith, less)
+      pub grid_some : 1 ≤ held
+      grid_some = omega (arith, grid_less)
 
       pub grid_release_keeps : GridKept w bytes (set lens p 0) (held - 1)
       grid_release_keeps = record {
         sized = k.sized;
         laid = (k.laid.0, length-set lens p 0 ∙ k.laid.1);
         short = set_short w lens p 0 k.short (omega arith);
-        counted = omega (arith, ap total (grid_release_after r n p h e), less);
+        counted = omega (arith, ap total (grid_release_after r n p h e), grid_less);
       }
 
 module _ (w : ℕ) (bytes lens : List ℕ) (el : lens ≡ replicate most_strings 0) where

@@ -29,7 +29,7 @@ module _ (rest all : List ℕ) (c : ℕ) (e : all ≡ rest ++ c ∷ []) where
   on_top i h = rw (h, e) (get_or-append_seam rest c [] 0)
 
 module _ {w limit room : ℕ} {bytes cells lens spare : List ℕ} (k : PoolKept w limit room bytes cells lens spare) where
-  pool_length : (r n : ℕ) → in_bounds r n ≡ true → length (string_at (pool_contents w limit bytes cells lens) r n) ≡ get_or lens (place_of r n) 0
+  pub pool_length : (r n : ℕ) → in_bounds r n ≡ true → length (string_at (pool_contents w limit bytes cells lens) r n) ≡ get_or lens (place_of r n) 0
   pool_length = held-length w limit limit bytes lens (λ p. get_or cells p 0) k.spread.0 k.short k.celled
 
   pub pool_sound : Sound (pool_contents w limit bytes cells lens)

@@ -1,11 +1,14 @@
 -- Octets written into a buffer one part after the other.
-use Rattle.std.proofs.Common.{◌≡◌, ℕ, ◌+◌, ◌-◌, ◌*◌, ◌/◌, ◌%◌, ◌<◌, ◌≤◌, ltb, List, [], ◌∷◌, ◌++◌, length, get_or, take, drop, set, None, Ok, Option, Result, sym, refl, ap, ◌∙◌, append_assoc, mul-le-mul_left, mul-suc, arith, length-append, length-set}
+use Rattle.std.proofs.Common.{◌≡◌, ℕ, ◌+◌, ◌-◌, ◌*◌, ◌/◌, ◌%◌, ◌<◌, ◌≤◌, ltb, List, [], ◌∷◌, ◌++◌, length, get_or, take, drop, set, None, Ok, Option, Result, sym, refl, ap, ◌∙◌, append_assoc, mul-le-mul_left, mul-suc, arith, length-append, length-drop, length-set, length-take}
 use Rattle.std.proofs.lemmas.List.{take_at, drop_at, drop-drop, take-append-drop, set-append_left, length-take-le, take_more, flat_map_more}
 use Rattle.std.proofs.lemmas.Bool.{le-ltb, cond-false}
 use Rattle.std.specs.List.{flat_map}
 use Rattle.protocol.specs.Causes.{Cause}
 use Rattle.pdu.specs.Sum.{checksum_of}
 use Rattle.pdu.specs.Write.{sealed, head_octets, pdu_octets, overlaid, sent, counted, fronted}
+
+pub length-overlaid : (buffer : List ℕ) (p : ℕ) (xs : List ℕ) → p + length xs ≤ length buffer → length (overlaid buffer p xs) ≡ length buffer
+length-overlaid buffer p xs h = simp (length-append, length-append, length-take, length-drop) (omega arith)
 
 -- one part behind another is both parts at once
 pub overlaid_more : (buffer : List ℕ) (p q : ℕ) (xs ys : List ℕ) → q ≡ p + length xs → p + length xs + length ys ≤ length buffer

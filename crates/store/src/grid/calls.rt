@@ -37,7 +37,7 @@ impl Places for Grid {
         self.held += 1;
     }
 
-    #[tactic(auto, using(contents::proofs::Gridding::grid_less, contents::proofs::Gridding::grid_none, contents::proofs::Gridding::grid_release_after))]
+    #[tactic(auto, using(contents::proofs::Gridding::grid_some, contents::proofs::Gridding::grid_none, contents::proofs::Gridding::grid_release_after))]
     fn release(&mut self, place: Place) {
         let index = place.index();
         if self.lens[index] > 0 {
