@@ -1,8 +1,10 @@
-use Rattle.std.proofs.Common.{refl, ap, ◌∙◌}
+use Rattle.std.proofs.Common.{◌≡◌, refl, ap, ◌∙◌, arith}
 use Rattle.std.specs.List.{slice_get}
 use Rattle.std.proofs.lemmas.Iterator.Consumers.{nth_from_yields_List, YieldsList-from_first}
 use Rattle.wire.specs.Views.{destination_in, destinations_in}
 use Rattle.wire.proofs.views.Destinations.get.Goals as goal
 
 pub returns : goal.returns
-returns c = record { value = nth_from_yields_List c.nth.result c.nth.new.self c.into.result c.nth.ensures.ran (YieldsList-from_first destination_in destinations_in _ refl) ∙ ap (slice_get (destinations_in c.args.self.now)) c.into.ensures }
+returns c =
+    let at : c.into.result ≡ c.args.n = omega arith in
+    record { value = nth_from_yields_List c.nth.result c.nth.new.self c.into.result c.nth.ensures.ran (YieldsList-from_first destination_in destinations_in _ refl) ∙ ap (slice_get (destinations_in c.args.self.now)) at }
